@@ -156,7 +156,7 @@ module _ (cx : Context) (code : List Instruction) (deep : ℕ) where
         let met = at_split cx code deep x gs w l.first l.second known is.splits in
         let z = at_instr l.second x in
         let here : x.state.place + 0 ≡ x.state.place = omega arith in
-        let end = at_end cx code deep (at_instr l.first x) z gs met.0 met.1
+        let end = at_end cx code deep 0 0 (at_instr l.first x) z gs met.0 met.1
         (stuck_costs cx code deep l x.at is (at_instr l.first x) refl (subst (IsStuck l cx.haystack x.limit) here stuck)) in
         (end.0, at_stop z m gs end.0 refl on end.1, passed_then met.2 end.2 (omega arith) (omega arith))
     closed (suc n) m x gs w is on known items fits stuck =

@@ -18,5 +18,6 @@ pub mod AnswerLemmas
 pub mod PassLemmas
 pub mod CloseLemmas
 pub mod LoopLemmas
+pub mod ChoiceLemmas
 pub mod DropLemmas
 pub mod FrontLemmas

@@ -13,19 +13,18 @@ use Rattle.fancy_machine.specs.declared.runs.Run.{Run}
 use Rattle.fancy_machine.specs.Attempt.{attempt_context, accepts, code_in, Seeks, SeeksBack, Advanced, size_ahead}
 use Rattle.fancy_machine.specs.Frames.{Frame, Held, Spot, saved}
 use Rattle.fancy_machine.specs.Machine.{finish, left, at_instr, at_place, saved_run}
-use Rattle.fancy_machine.specs.Runs.{DieFrom, IsRun, IsStuck, past_items}
+use Rattle.fancy_machine.specs.Runs.{DieFrom, IsRun, past_items}
 use Rattle.fancy_machine.proofs.PassLemmas.{Passed, passed_none, passed_then, read_on, gone_back, gone_dead, saved_by_run, seeks_on, fewer_on, returns_to_come, choices_to_come}
 use Rattle.fancy_machine.proofs.CloseLemmas.{alone_items, closed}
 
--- no items were read at a choice
-pub no_items : (l : ToldSplit) (haystack : List ℕ) (h : Held) (stuck : Bool) → h.now.state.place < 2 ^ 64 → (stuck ≡ true → IsStuck l haystack h.now.limit h.now.state.place)
-    → IsRun l haystack h (record { count = 0; is_stuck = stuck; closes = false })
-no_items l haystack h stuck fits is = record {
+-- no items were read at a choice, and its first way may go on
+pub no_items : (l : ToldSplit) (haystack : List ℕ) (h : Held) → h.now.state.place < 2 ^ 64 → IsRun l haystack h (record { count = 0; is_stuck = false; closes = false })
+no_items l haystack h fits = record {
   items = λ k lt. absurd (omega (arith, lt));
   inside = omega arith;
   fits = omega (arith, fits);
   short = omega arith;
-  stuck = λ e. let here : h.now.state.place ≡ h.now.state.place + 0 = omega arith in subst (IsStuck l haystack h.now.limit) here (is e);
+  stuck = λ e. absurd (true≢false (sym e));
   goes = λ e some. absurd (omega (arith, some));
   closes = λ e. absurd (true≢false (sym e));
   stays = λ e some. absurd (omega (arith, some));

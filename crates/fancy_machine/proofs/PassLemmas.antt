@@ -4,6 +4,7 @@ use Rattle.std.specs.Prelude.{slice_get}
 use Rattle.std.proofs.lemmas.Option.{same_Some, slice_get-get_or}
 use Rattle.std.proofs.lemmas.Bool.{cases_eq}
 use Rattle.fancy_bytes.specs.Sets.{member}
+use Rattle.fancy_tree.specs.declared.tree.Meaning.{Meaning}
 use Rattle.fancy_code.specs.Context.{Context, State}
 use Rattle.fancy_code.specs.Instructions.{Instruction}
 use Rattle.fancy_code.specs.Instructions as i
@@ -13,7 +14,7 @@ use Rattle.fancy_code.specs.Thread.{size_of}
 use Rattle.fancy_code.proofs.RunMore.{run_more}
 use Rattle.fancy_prices.specs.declared.splits.ToldSplit.{ToldSplit}
 use Rattle.fancy_prices.specs.declared.splits.Splits.{Splits}
-use Rattle.fancy_prices.specs.Splits.{AreApart, DiesPast, IsToldSplit, IsNoted, ReadsByte, byte_alone}
+use Rattle.fancy_prices.specs.Splits.{AreApart, DiesPast, IsToldSplit, IsNoted, LeavesAt, ReadsByte, byte_alone}
 use Rattle.fancy_prices.specs.Prices.{Costs, MissesIn, Dies}
 use Rattle.fancy_code.specs.Code.{instrs_of}
 use Rattle.fancy_machine.specs.declared.attempt.Attempt.{Attempt}
@@ -55,6 +56,12 @@ passed_return : (w rest : List Raw) → w ≡ Note returned ∷ rest → Passed 
 passed_return w rest e = subst (λ (l : List Raw). Passed 0 1 l rest) (sym e)
     (record { answer = λ l ok b. refl; returned_so = λ ok. omega arith; marked_so = λ ok. omega arith; shorter = omega arith })
 
+-- the first way of a loop costs nothing where it dies
+pub misses_free : (code : List Instruction) (meaning : Meaning) (at : ℕ) (l : ToldSplit) → IsToldSplit code meaning at l → l.is_loop ≡ true → LeavesAt code meaning l.begins l.first
+misses_free code meaning at l is loop b lt lacks =
+    let f = is.free loop in
+    subst (λ (m : ℕ). Dies code meaning (byte_alone b) m 0 l.first) f.0 (subst (λ (r : ℕ). Dies code meaning (byte_alone b) l.price.marks r l.first) f.1 (is.misses b lt lacks))
+
 module _ (cx : Context) (code : List Instruction) (deep : ℕ) where
   abbrev go : ℕ → Go
   go l = run cx l code deep
@@ -80,17 +87,25 @@ module _ (cx : Context) (code : List Instruction) (deep : ℕ) where
       let v = before_some (Note fetched) _ w (sym (ap (finish go gs) is ∙ finish_note go gs fetched (after go z)) ∙ known) in
       (v.0, v.1, passed_fetch w v.0 v.2)
 
-  -- what costs nothing ends, and what was saved follows
-  free_back : (u : List Raw) → MissesIn any 0 0 u → (fs : List Frame) (o : Option (List Raw)) (w : List Raw) → finish go fs (join (Some u) o) ≡ Some w
-      → (rest : List Raw) × (finish go fs o ≡ Some rest) × Passed 0 1 w rest
-  free_back [] c fs o w h = let t = take_branch go fs o w (sym (ap (finish go fs) (join_nothing o)) ∙ h) in (t.0, t.1, passed_return w t.0 t.2)
-  free_back (Note fetched ∷ u) c fs o w h =
+  -- what costs so much ends, and what was saved follows
+  costly_back : (m r : ℕ) (u : List Raw) → MissesIn any m r u → (fs : List Frame) (o : Option (List Raw)) (w : List Raw) → finish go fs (join (Some u) o) ≡ Some w
+      → (rest : List Raw) × (finish go fs o ≡ Some rest) × Passed m (r + 1) w rest
+  costly_back m r [] c fs o w h =
+      let t = take_branch go fs o w (sym (ap (finish go fs) (join_nothing o)) ∙ h) in
+      (t.0, t.1, passed_then (passed_none w) (passed_return w t.0 t.2) (omega (arith, c.0)) (omega (arith, c.1)))
+  costly_back m r (Note fetched ∷ u) c fs o w h =
       let v = before_some (Note fetched) _ w (sym (ap (finish go fs) (join_note fetched (Some u) o) ∙ finish_note go fs fetched (join (Some u) o)) ∙ h) in
-      let t = free_back u c fs o v.0 v.1 in
+      let t = costly_back m r u c fs o v.0 v.1 in
       (t.0, t.1, passed_then (passed_fetch w v.0 v.2) t.2 (omega arith) (omega arith))
-  free_back (Note choice_opened ∷ u) c fs o w h = absurd (omega (arith, c.1))
-  free_back (Note returned ∷ u) c fs o w h = absurd (omega (arith, c.1))
-  free_back (Stop q s v ∷ u) c fs o w h = absurd (true≢false c.0)
+  costly_back m r (Note choice_opened ∷ u) c fs o w h =
+      let v = before_some (Note choice_opened) _ w (sym (ap (finish go fs) (join_note choice_opened (Some u) o) ∙ finish_note go fs choice_opened (join (Some u) o)) ∙ h) in
+      let t = costly_back c.0 r u c.2 fs o v.0 v.1 in
+      (t.0, t.1, passed_then (passed_mark w v.0 v.2) t.2 (omega (arith, c.1)) (omega arith))
+  costly_back m r (Note returned ∷ u) c fs o w h =
+      let v = before_some (Note returned) _ w (sym (ap (finish go fs) (join_note returned (Some u) o) ∙ finish_note go fs returned (join (Some u) o)) ∙ h) in
+      let t = costly_back m c.0 u c.2 fs o v.0 v.1 in
+      (t.0, t.1, passed_then (passed_return w v.0 v.2) t.2 (omega arith) (omega (arith, c.1)))
+  costly_back m r (Stop q s v ∷ u) c fs o w h = absurd (true≢false c.0)
 
   -- the same where nothing was saved for it
   free_dead : (u : List Raw) → MissesIn any 0 0 u → (fs : List Frame) (w : List Raw) → finish go fs (Some u) ≡ Some w
@@ -105,25 +120,25 @@ module _ (cx : Context) (code : List Instruction) (deep : ℕ) where
   free_dead (Stop q s v ∷ u) c fs w h = absurd (true≢false c.0)
 
   -- a way that dies where a byte stands
-  pub costs : (y : Spot) (b : ℕ) (u : List Raw) → Dies code cx.meaning (byte_alone b) 0 0 y.at → slice_get cx.haystack y.state.place ≡ Some b → after go y ≡ Some u → MissesIn any 0 0 u
-  costs y b u dies here is = subst (Costs 0 0) is (dies cx y.limit deep y.state y.starts refl (record { here = here; before = tt }))
+  pub costs : (m r : ℕ) (y : Spot) (b : ℕ) (u : List Raw) → Dies code cx.meaning (byte_alone b) m r y.at → slice_get cx.haystack y.state.place ≡ Some b → after go y ≡ Some u → MissesIn any m r u
+  costs m r y b u dies here is = subst (Costs m r) is (dies cx y.limit deep y.state y.starts refl (record { here = here; before = tt }))
 
-  -- a way that costs nothing and dies, where a branch was saved
-  pub at_end : (y z : Spot) (fs : List Frame) (w : List Raw) → left go y (Saved z ∷ fs) ≡ Some w → ((u : List Raw) → after go y ≡ Some u → MissesIn any 0 0 u)
-      → (rest : List Raw) × (left go z fs ≡ Some rest) × Passed 0 1 w rest
-  at_end y z fs w known free =
+  -- a way that costs so much and dies, where a branch was saved
+  pub at_end : (m r : ℕ) (y z : Spot) (fs : List Frame) (w : List Raw) → left go y (Saved z ∷ fs) ≡ Some w → ((u : List Raw) → after go y ≡ Some u → MissesIn any m r u)
+      → (rest : List Raw) × (left go z fs ≡ Some rest) × Passed m (r + 1) w rest
+  at_end m r y z fs w known dies =
       let k = finish_known go (Saved z ∷ fs) (after go y) w known in
-      free_back k.0 (free k.0 k.1) fs (after go z) w (sym (ap (finish go (Saved z ∷ fs)) k.1) ∙ known)
+      costly_back m r k.0 (dies k.0 k.1) fs (after go z) w (sym (ap (finish go (Saved z ∷ fs)) k.1) ∙ known)
 
   at_dead_end : (y z : Spot) (fs : List Frame) (w : List Raw) (b : ℕ) → left go y (Saved z ∷ fs) ≡ Some w → Dies code cx.meaning (byte_alone b) 0 0 y.at
       → slice_get cx.haystack y.state.place ≡ Some b → (rest : List Raw) × (left go z fs ≡ Some rest) × Passed 0 1 w rest
-  at_dead_end y z fs w b known dies here = at_end y z fs w known (λ u is. costs y b u dies here is)
+  at_dead_end y z fs w b known dies here = at_end 0 0 y z fs w known (λ u is. costs 0 0 y b u dies here is)
 
-  at_last_end : (y : Spot) (fs : List Frame) (w : List Raw) (b : ℕ) → left go y fs ≡ Some w → Dies code cx.meaning (byte_alone b) 0 0 y.at
+  pub at_last_end : (y : Spot) (fs : List Frame) (w : List Raw) (b : ℕ) → left go y fs ≡ Some w → Dies code cx.meaning (byte_alone b) 0 0 y.at
       → slice_get cx.haystack y.state.place ≡ Some b → (rest : List Raw) × (finish go fs (Some []) ≡ Some rest) × Passed 0 0 w rest
   at_last_end y fs w b known dies here =
       let k = finish_known go fs (after go y) w known in
-      free_dead k.0 (costs y b k.0 dies here k.1) fs w (sym (ap (finish go fs) k.1) ∙ known)
+      free_dead k.0 (costs 0 0 y b k.0 dies here k.1) fs w (sym (ap (finish go fs) k.1) ∙ known)
 
   -- the branch that was saved last dies where a byte stands
   pub branch_dies : (y : Spot) (fs : List Frame) (w : List Raw) (b : ℕ) → finish go (Saved y ∷ fs) (Some []) ≡ Some w → Dies code cx.meaning (byte_alone b) 0 0 y.at
@@ -137,9 +152,10 @@ module _ (cx : Context) (code : List Instruction) (deep : ℕ) where
   pub stuck_costs : (l : ToldSplit) (at : ℕ) → IsToldSplit code cx.meaning at l → (y : Spot) → y.at ≡ l.first → IsStuck l cx.haystack y.limit y.state.place
       → (u : List Raw) → after go y ≡ Some u → MissesIn any 0 0 u
   stuck_costs l at is y first stuck u e =
-      elim stuck [
-        | inl lacks ↦ costs y lacks.0 u (subst (Dies code cx.meaning (byte_alone lacks.0) 0 0) (sym first) (is.misses lacks.0 lacks.2 lacks.3)) lacks.1 e
-        | inr past ↦ subst (Costs 0 0) e (subst (DiesPast code) (sym first) (is.ends past.0) cx y.limit deep y.state y.starts past.1)
+      elim stuck.1 [
+        | inl lacks ↦
+            costs 0 0 y lacks.0 u (subst (Dies code cx.meaning (byte_alone lacks.0) 0 0) (sym first) (misses_free code cx.meaning at l is stuck.0 lacks.0 lacks.2 lacks.3)) lacks.1 e
+        | inr past ↦ subst (Costs 0 0) e (subst (DiesPast code) (sym first) (is.ends stuck.0) cx y.limit deep y.state y.starts past)
       ]
 
   module _ (l : ToldSplit) (x : Spot) (fs : List Frame) (is : IsToldSplit code cx.meaning x.at l) where
@@ -204,7 +220,7 @@ module _ (cx : Context) (code : List Instruction) (deep : ℕ) where
       pub gone_back : (rest : List Raw) × (left go (rest_of k) (run_saved k) ≡ Some rest) × Passed (n + 1) (1 + (n - k)) w rest
       gone_back =
           let read = read_on n w known alone items fits in
-          let end = at_end (item n) (rest_of n) (run_saved n) read.0 read.1 (stuck_costs l x.at is (item n) refl stuck) in
+          let end = at_end 0 0 (item n) (rest_of n) (run_saved n) read.0 read.1 (stuck_costs l x.at is (item n) refl stuck) in
           let back = back_over (n - k) n k (omega (arith, le)) end.0 end.1 dies in
           (back.0, back.1, passed_then (passed_then read.2 end.2 refl refl) back.2 (omega arith) (omega arith))
 

@@ -45,13 +45,13 @@ pub(crate) fn may_begin(split: &ToldSplit, haystack: &[u8], place: usize) -> boo
     }
 }
 
-/// Whether the first way may go on at a place, where consumed text ends by a limit. No item of a loop stands where nothing is consumed
-/// any more.
+/// Whether an item of a loop may stand at a place, where consumed text ends by a limit: none does where nothing is consumed any more.
 fn may_stand(split: &ToldSplit, haystack: &[u8], limit: usize, place: usize) -> bool
+    requires { split.now.is_loop ≡ true }
     ensures { result ≡ false → IsStuck split.now haystack.now limit place }
 {
     let is_past = limit <= place || haystack.len() <= place;
-    may_begin(split, haystack, place) && !(is_past && split.is_loop)
+    !is_past && may_begin(split, haystack, place)
 }
 
 /// Whether what follows a loop may go on at a place; it may where no byte stands.
@@ -180,9 +180,6 @@ fn read_run(
         ⊎ CountsUnits n work.old work.new) }
 {
     let from = trail.place();
-    if !split.is_loop {
-        return Ok(0);
-    }
     let at = trail.at();
     let end = trail.limit().min(attempt.haystack.len());
     if let Some(count) = last_run.items_from(at, from, end) {
@@ -231,7 +228,8 @@ fn read_ahead(
     })
 }
 
-/// Goes on at a choice that is told and is no loop. Where bytes tell that a way dies at once it is passed over.
+/// Goes on at a choice that is told and is no loop. Where bytes tell that a way dies it is passed over, with the choices that it opens:
+/// so it is where all of them may be saved.
 fn choose(
     attempt: &Attempt,
     split: &ToldSplit,
@@ -247,15 +245,14 @@ fn choose(
 {
     work.count_step_within();
     let place = trail.place();
-    if may_begin(split, attempt.haystack, place) {
+    let saved = split.price.marks as usize + 1;
+    if may_begin(split, attempt.haystack, place) || !trail.has_room_for(saved) {
         trail.save_run(split.second, place, 1)?;
         trail.go(split.first);
         return Ok(Next::On);
     }
-    if !trail.has_room_for(1) {
-        return Err(SearchRefusal::Choices);
-    }
-    work.count_returns(1, limit, attempt.options.step_limit)?;
+    let returns = split.price.returns as usize + 1;
+    work.count_returns(returns, limit, attempt.options.step_limit)?;
     if !may_leave(split, attempt.haystack, place) {
         return Ok(Next::Dead);
     }

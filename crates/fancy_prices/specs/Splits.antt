@@ -10,7 +10,8 @@ use Rattle.fancy_code.specs.Run.{Note, Stop, fetched, before, instr_at, run}
 use Rattle.fancy_prices.specs.declared.facts.Facts.{Facts}
 use Rattle.fancy_prices.specs.declared.splits.ToldSplit.{ToldSplit}
 use Rattle.fancy_prices.specs.declared.splits.Splits.{Splits}
-use Rattle.fancy_prices.specs.Prices.{Costs, Dies}
+use Rattle.fancy_prices.specs.declared.price.Price.{Price}
+use Rattle.fancy_prices.specs.Prices.{Costs, Dies, IsNothing}
 
 -- an item of one byte
 abbrev pub single : ℕ → Unit_at
@@ -62,9 +63,13 @@ StopsAt code q next = (x : Context) (limit n : ℕ) (s : State) (v : List ℕ) �
 abbrev pub byte_alone : ℕ → Facts
 byte_alone b = record { here = b; before = None }
 
--- Where a byte stands that is not in the set, the code from q on dies, and costs no mark and no return.
-abbrev pub BeginsAt : List Instruction → Meaning → ByteFlags → ℕ → Type 0
-BeginsAt code meaning set q = (b : ℕ) → b < 256 → member set b ≡ false → Dies code meaning (byte_alone b) 0 0 q
+-- Where a byte stands that is not in the set, the code from q on dies, and costs so much.
+abbrev pub BeginsAt : List Instruction → Meaning → Price → ByteFlags → ℕ → Type 0
+BeginsAt code meaning price set q = (b : ℕ) → b < 256 → member set b ≡ false → Dies code meaning (byte_alone b) price.marks price.returns q
+
+-- the same where it costs no mark and no return
+abbrev pub LeavesAt : List Instruction → Meaning → ByteFlags → ℕ → Type 0
+LeavesAt code meaning set q = (b : ℕ) → b < 256 → member set b ≡ false → Dies code meaning (byte_alone b) 0 0 q
 
 -- no byte is in both sets
 abbrev pub AreApart : ByteFlags → ByteFlags → Type 0
@@ -77,8 +82,9 @@ pub record IsToldSplit (code : List Instruction) (meaning : Meaning) (at : ℕ) 
   pub reads_in : (g : ℕ) → l.group ≡ Some g → ReadsEachIn code meaning l.items g l.first at
   pub ends : l.is_loop ≡ true → DiesPast code l.first
   pub stops : (next : ℕ) → l.stop ≡ Some next → StopsAt code l.second next
-  pub misses : BeginsAt code meaning l.begins l.first
-  pub leaves : BeginsAt code meaning l.leaves l.second
+  pub misses : BeginsAt code meaning l.price l.begins l.first
+  pub free : l.is_loop ≡ true → IsNothing l.price
+  pub leaves : LeavesAt code meaning l.leaves l.second
   pub apart : l.apart ≡ true → AreApart l.items l.leaves
 
 -- each choice that has a number stands at an instruction that it is noted for

@@ -1,6 +1,6 @@
 //! What attempts cost that find nothing.
 
-ghost use Rattle.std.specs.Prelude.{◌≡◌, ◌+◌, ◌≤◌, suc, true, IfSome};
+ghost use Rattle.std.specs.Prelude.{◌≡◌, ◌+◌, ◌≤◌, suc, true, IfSome, Some};
 ghost use Rattle.fancy_prices.specs.Prices.{IsNothing};
 
 /// The greatest number of choices, or of returns, that is told.
@@ -52,6 +52,16 @@ impl Price {
         ensures { result ≡ true → IsNothing self }
     {
         self.marks == 0 && self.returns == 0
+    }
+
+    /// Whether this is the price that is told, if one is.
+    pub(crate) fn is_that(self, told: Option<Price>) -> bool
+        ensures { result ≡ true → told ≡ Some self }
+    {
+        match told {
+            Some(told) => told.marks == self.marks && told.returns == self.returns,
+            None => false,
+        }
     }
 
     /// The price, if it is nothing.

@@ -6,17 +6,19 @@ ghost use Rattle.fancy_bytes.specs.Sets.{IsSetOf, member};
 ghost use Rattle.fancy_code.specs.declared.code.Code.{Code};
 ghost use Rattle.fancy_code.specs.Code.{instrs_of};
 ghost use Rattle.fancy_code.specs.Instructions.{edges_in};
-ghost use Rattle.fancy_prices.specs.Splits.{AreApart, AreItems, AreSplits, BeginsAt, DiesPast, IsAlone, IsToldSplit, IsNoted, ReadsEach, ReadsEachIn, StopsAt};
+ghost use Rattle.fancy_prices.specs.Prices.{Dies, IsNothing};
+ghost use Rattle.fancy_prices.specs.Splits.{AreApart, AreItems, AreSplits, BeginsAt, DiesPast, IsAlone, IsToldSplit, IsNoted, LeavesAt, ReadsEach, ReadsEachIn, StopsAt, byte_alone};
 
 use crate::facts::Facts;
-use crate::free::is_free;
+use crate::free::price_of;
+use crate::price::Price;
 use fancy_bytes::byte_set::ByteSet;
 use fancy_code::code::{Code, Instr};
 use fancy_tree::char_set::CharSet;
 use fancy_tree::tree::Meaning;
 use std::alloc::{AllocError, Global};
 
-/// The most choices that are noted. For each it is asked of 256 bytes, twice, what the code does where the byte stands.
+/// The most choices that are noted. For each it is asked of 256 bytes, at most three times, what the code does where the byte stands.
 const MOST: usize = 128;
 
 /// How many instructions are followed one after another.
@@ -45,11 +47,13 @@ pub struct ToldSplit {
     pub stop: Option<usize>,
     /// Whether the second way cannot go on where an item of one byte stands.
     pub apart: bool,
+    /// What the first way costs where it is told that it dies. That of a loop costs nothing.
+    pub price: Price,
     // bytes that are an item by themselves
     items: ByteSet,
-    // bytes at which the first way may cost something, or find a match
+    // bytes at which the first way may cost something else, or find a match
     begins: ByteSet,
-    // the same of the second way
+    // bytes at which the second way may cost something, or find a match
     leaves: ByteSet,
 }
 
@@ -62,7 +66,7 @@ impl ToldSplit {
         self.items.contains(byte)
     }
 
-    /// Whether the first way may cost something, or find a match, where the byte stands: an item of a loop may begin there.
+    /// Whether the first way may cost another price, or find a match, where the byte stands: an item of a loop may begin there.
     #[inline]
     pub fn may_begin(&self, byte: u8) -> bool
         ensures { result ≡ member self.now.begins byte }
@@ -261,24 +265,52 @@ fn opens_choice(code: &Code, at: usize, deep: usize) -> bool {
     }
 }
 
-/// The bytes at which the code from an instruction on may cost something, or find a match: each of them, where it opens a choice.
-fn begins_of(code: &Code, at: usize) -> ByteSet
-    ensures { BeginsAt (instrs_of code.now) code.now.meaning result at }
+/// What the code from an instruction on costs where this byte stands and it dies. `None` where it is not told that it does.
+fn price_at(code: &Code, at: usize, here: u8) -> Option<Price>
+    ensures { IfSome result (λ p. Dies (instrs_of code.now) code.now.meaning (byte_alone here)
+        p.marks p.returns at) }
 {
-    if opens_choice(code, at, DEPTH) {
-        return ByteSet::all();
+    let facts = Facts { here, before: None };
+    price_of(code, at, facts, DEPTH)
+}
+
+/// What the first way of a choice costs at the first byte at which it is told that it dies: nothing, where it reads an item of a loop.
+/// No answer rests on which of the prices it is.
+fn first_price(code: &Code, at: usize, is_loop: bool) -> Price
+    ensures { is_loop ≡ true → IsNothing result }
+{
+    if is_loop {
+        return Price::nothing();
     }
+    for first in 0..256u32 {
+        if let Some(price) = price_at(code, at, first as u8) {
+            return price;
+        }
+    }
+    Price::nothing()
+}
+
+/// The bytes at which the code from an instruction on may cost another price, or find a match.
+fn begins_of(code: &Code, at: usize, price: Price) -> ByteSet
+    ensures { BeginsAt (instrs_of code.now) code.now.meaning price result at }
+{
     let mut bytes = ByteSet::new();
     for here in 0..256u32 {
-        let facts = Facts {
-            here: here as u8,
-            before: None,
-        };
-        if !is_free(code, at, facts, DEPTH) {
+        if !price.is_that(price_at(code, at, here as u8)) {
             bytes.insert(here as u8);
         }
     }
     bytes
+}
+
+/// The bytes at which the code from an instruction on may cost something, or find a match: each of them, where it opens a choice.
+fn leaves_of(code: &Code, at: usize) -> ByteSet
+    ensures { LeavesAt (instrs_of code.now) code.now.meaning result at }
+{
+    if opens_choice(code, at, DEPTH) {
+        return ByteSet::all();
+    }
+    begins_of(code, at, Price::nothing())
 }
 
 /// Whether no byte is in both sets.
@@ -300,11 +332,12 @@ fn split_at(code: &Code, at: usize) -> Option<ToldSplit>
 {
     let ways = code.ways(at)?;
     let reader = reader_of(code, ways.first, at);
-    let begins = begins_of(code, ways.first);
+    let price = first_price(code, ways.first, reader.is_item);
+    let begins = begins_of(code, ways.first, price);
     if !reader.is_item && begins.len() == 256 {
         return None;
     }
-    let leaves = begins_of(code, ways.second);
+    let leaves = leaves_of(code, ways.second);
     Some(ToldSplit {
         first: ways.first,
         second: ways.second,
@@ -312,6 +345,7 @@ fn split_at(code: &Code, at: usize) -> Option<ToldSplit>
         group: reader.group,
         stop: stop_at(code, ways.second),
         apart: are_apart(&reader.items, &leaves),
+        price,
         items: reader.items,
         begins,
         leaves,

@@ -12,6 +12,7 @@ returns c = record {
   ends = c.reader_of-reader.ensures.ends;
   stops = λ next is. subst (λ (o : Option ℕ). IfSome o (λ q. StopsAt (instrs_of c.args.code.now) c.in_ok-ways.ways.second q)) is c.stop_at.ensures;
   misses = c.begins_of-begins.ensures;
-  leaves = c.begins_of-leaves.ensures;
+  free = c.first_price-price.ensures;
+  leaves = c.leaves_of-leaves.ensures;
   apart = c.are_apart.ensures;
 }
