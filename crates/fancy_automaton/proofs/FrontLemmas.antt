@@ -8,7 +8,6 @@ use Rattle.fancy_input.specs.declared.span.Span.{Span}
 use Rattle.fancy_code.specs.declared.attempt.Attempt.{Attempt}
 use Rattle.fancy_code.specs.Attempt.{instrs_in, may_end_in}
 use Rattle.fancy_code.specs.Reading.{unit_read}
-use Rattle.fancy_prefilter.specs.Seen.{NoneMayStart}
 use Rattle.fancy_automaton.specs.declared.cells.Cell.{Cell}
 use Rattle.fancy_automaton.specs.declared.cells.Cells.{Cells}
 use Rattle.fancy_automaton.specs.declared.front.Front.{Front}
@@ -21,14 +20,14 @@ use Rattle.fancy_automaton.specs.Cells.{KeepsRows, KeepsCells, HasRow, HasRows, 
 use Rattle.fancy_alphabet.specs.Alike.{IsSeenLike}
 use Rattle.fancy_automaton.specs.Front.{IsFront, Stands, ways_of, starts_of, found_of}
 use Rattle.fancy_alphabet.specs.Units.{place_after}
-use Rattle.fancy_automaton.specs.Search.{Going, IsFollowed, begun_if, found_or}
+use Rattle.fancy_automaton.specs.Search.{Going, begun_if, found_or}
 use Rattle.fancy_automaton.specs.Steps.{IsStep, at_of, start_in, span_by}
 use Rattle.fancy_automaton.specs.Trail.{starts_after, starts_in, began_by, found_at, found_in_trail, hit_or, known_hit, and_start, AllVisited, IsBeginning, HitIn}
 use Rattle.fancy_alphabet.specs.Sights.{seen_in}
 use Rattle.fancy_automaton.specs.Ways.{match_end}
 use Rattle.fancy_alphabet.specs.declared.sight.Sight.{Sight}
 use Rattle.fancy_automaton.proofs.CellLemmas.{row_ways, row_holds, row_later, row_here, cell_is, get_within}
-use Rattle.fancy_automaton.proofs.GoingLemmas.{going_first, going_step, going_same, going_on, going_idle, going_bad}
+use Rattle.fancy_automaton.proofs.GoingLemmas.{going_step, going_same, going_on}
 use Rattle.fancy_automaton.proofs.SearchLemmas.{no_items}
 use Rattle.fancy_automaton.proofs.StepLemmas.{step_alike}
 use Rattle.fancy_automaton.proofs.TrailLemmas.{told_by, starts_visited, visited_keep, visited_more, hit_in}
@@ -89,22 +88,6 @@ module _ (a : Attempt) (cells later : Cells) (f : Front) (place row : ℕ) (aske
             (subst (HitIn (old ++ v ∷ [])) (sym found) (hit_in old v f.hit d.matched place is.hits));
       }
 
--- before the first place
-pub front_first : (a : Attempt) (cells : Cells) (f : Front) → IsFollowed a → HoldsFor cells a.code.now → HasRows cells.rows.lists.items f.next f.begun [] a.code.now.start
-    → f.trail.base.items ≡ [] → f.trail.visits.items ≡ [] → f.hit ≡ None → IsFront a cells f a.base a.base
-front_first a cells f followed holds rows base visits hit =
-    let none = row_ways cells.rows.lists.items f.next [] rows.waits in
-    record {
-      followed = followed;
-      kept = holds.bounded;
-      all = holds.all;
-      waits = row_holds cells.rows.lists.items f.next [] rows.waits;
-      opens = subst (λ (ws : List ℕ). HasRow cells.rows.lists.items f.begun (ws ++ a.code.now.start ∷ [])) (sym none) rows.opens;
-      going = going_first a _ _ _ none (ap₂ (starts_after cells.cells.items) base visits) (ap (found_at cells.cells.items f.trail.base.items f.trail.visits.items) hit);
-      visits = subst (AllVisited cells.cells.items) (sym visits) tt;
-      hits = subst (HitIn f.trail.visits.items) (sym hit) tt;
-    }
-
 module _ (a : Attempt) (cells : Cells) (f : Front) where
   -- the same, where more is known of where the ways wait
   front_by : (place place' resume resume' : ℕ) → IsFront a cells f place resume → Going a (ways_of cells f) (starts_of cells f) (found_of cells f) place' resume'
@@ -114,17 +97,6 @@ module _ (a : Attempt) (cells : Cells) (f : Front) where
   -- on to the place where the ways wait
   pub front_on : (place resume : ℕ) → resume ≤ a.last + 1 → IsFront a cells f place resume → IsFront a cells f resume resume
   front_on place resume within is = front_by place resume resume resume is (going_on a _ _ _ place resume within is.going)
-
-  -- a place where no match may begin or end
-  pub front_bad : (place : ℕ) → place ≤ a.last → may_end_in a place ≡ false → IsFront a cells f place place → IsFront a cells f (place + 1) (place + 1)
-  front_bad place within bad is = front_by place (place + 1) place (place + 1) is (going_bad a _ _ _ place within bad is.going)
-
-  -- where no way waits, places are passed over where no match may start
-  pub front_skips : (place resume : ℕ) → ways_of cells f ≡ [] → place ≤ resume → resume ≤ a.last + 1
-      → NoneMayStart a.code.now.prefilter.starts a.haystack.now a.last place resume → IsFront a cells f place place → IsFront a cells f resume resume
-  front_skips place resume idle ahead within none is =
-      front_by place resume place resume is
-      (going_idle a _ _ _ place resume ahead within (no_items (starts_of cells f) (is.going.even ∙ ap length idle)) (λ k low high. inr (none k low high)) is.going)
 
 -- it stands at the same place
 pub still_stands : (a : Attempt) (cells : Cells) (f : Front) (place next : ℕ) → next ≡ place → may_end_in a place ≡ true → place ≤ a.last → IsFront a cells f next next → Stands a cells f place

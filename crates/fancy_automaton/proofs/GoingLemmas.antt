@@ -93,20 +93,6 @@ module _ (a : Attempt) where
         rests = inr none;
       })
 
-  -- no way waits where no match may end
-  going_none : (ways starts : List ℕ) (found : Option Span) (place : ℕ) → may_end_in a place ≡ false → Goes ways starts found place place → starts ≡ []
-  going_none ways starts found place bad g =
-      elim g.rests [
-        | inl here ↦ absurd (true≢false (sym here.0 ∙ bad))
-        | inr none ↦ none
-      ]
-
-  pub going_bad : (ways starts : List ℕ) (found : Option Span) (place : ℕ) → place ≤ a.last → may_end_in a place ≡ false
-      → Goes ways starts found place place → Goes ways starts found (place + 1) (place + 1)
-  going_bad ways starts found place within bad g =
-      going_idle ways starts found place (place + 1) (omega arith) (omega (arith, within)) (going_none ways starts found place bad g)
-      (λ k low high. let same : place ≡ k = omega (arith, low, high) in inl (sym (ap (may_end_in a) same) ∙ bad)) g
-
   -- where what is read leads
   abbrev Reaches : ℕ → Option Unit_at → Type 0
   Reaches place u =

@@ -6,7 +6,7 @@ ghost use Rattle.fancy_alphabet.specs.Classes.{IsFirst};
 ghost use Rattle.fancy_code.specs.CodeLength.{code_len};
 ghost use Rattle.fancy_code.specs.Reading.{unit_read};
 ghost use Rattle.fancy_code.specs.declared.attempt.Attempt.{Attempt};
-ghost use Rattle.fancy_automaton.specs.Cells.{HasPlace, KeepsHolding, HasRows, HoldsFor};
+ghost use Rattle.fancy_automaton.specs.Cells.{HasPlace, KeepsHolding, HoldsFor};
 ghost use Rattle.fancy_automaton.specs.Trail.{HitIn, most_visits};
 ghost use Rattle.fancy_automaton.specs.Front.{IsFront, ways_of, found_of, KeepsFront, Stands, GoesOn, TakesStep};
 ghost use Rattle.fancy_automaton.specs.Sole.{IsSole};
