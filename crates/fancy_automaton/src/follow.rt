@@ -88,7 +88,6 @@ pub(crate) fn next_place(attempt: &Attempt, from: usize) -> usize
 
 /// Goes on until a match is found, or ways wait that began at several places. Where no way waits at two places in a row, it is
 /// left to a scan to find the next place.
-#[inline(never)]
 fn seek(attempt: &Attempt, cells: &Cells, from: Sole, idle: usize) -> Sole
     requires sole { IsSole attempt.now cells.now from }
     requires nothing { from.end ≡ None }
@@ -126,7 +125,6 @@ fn seek(attempt: &Attempt, cells: &Cells, from: Sole, idle: usize) -> Sole
 
 /// The next place at which all ways that wait began at one place again, if the table leads there with nothing found, and within as
 /// many places as a trail has: those are passed once more with a trail where it does not. So no place is passed many times.
-#[inline(never)]
 fn hunt(attempt: &Attempt, cells: &Cells, from: Stand, idle: usize) -> Option<Sole>
     requires idle { IsIdle cells.now.rows.lists.items idle }
     requires amid { IsAmid attempt.now cells.now from }
@@ -221,7 +219,6 @@ fn past(attempt: &Attempt, cells: &Cells, at: Sole, idle: usize) -> Option<Sole>
 }
 
 /// Goes on after a match was found, as long as some way waits.
-#[inline(never)]
 fn lengthen(attempt: &Attempt, cells: &Cells, from: Sole, idle: usize) -> Sole
     requires sole { IsSole attempt.now cells.now from }
     requires found { is_some from.end ≡ true }
