@@ -1,0 +1,3 @@
+pub mod ToldLemmas
+pub mod LackingLemmas
+pub mod RunLemmas
