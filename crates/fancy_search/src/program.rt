@@ -2,7 +2,7 @@
 
 ghost use Rattle.std.specs.Prelude.{◌≡◌, ◌≤◌, ◌<◌, ◌+◌, ◌*◌, ◌^◌, ℕ, Bool, List, None, Some, IfOk, IfErr, IfSome, IfNone, IsUtf8, chars, true, false, length, string_bytes};
 ghost use Rattle.std.specs.Option.{ForSome};
-ghost use Rattle.fancy_tree.specs.Pattern.{Pattern};
+ghost use Rattle.fancy_tree.specs.Pattern.{Pattern, pattern_of};
 ghost use Rattle.fancy_tree.specs.GroupNames.{names_of};
 ghost use Rattle.fancy_tree.specs.Modes.{keeps_characters};
 ghost use Rattle.fancy_tree.specs.Sizes.{nodes};
@@ -20,6 +20,7 @@ ghost use Rattle.fancy_code.specs.Search.{search};
 ghost use Rattle.fancy_automaton.specs.Futures.{ArePlain};
 ghost use Rattle.fancy_automaton.specs.Search.{KeepsPlaces};
 ghost use Rattle.fancy_bytes.specs.Lacks.{AreKnown, AreRequired};
+ghost use Rattle.fancy_required.specs.Required.{required_text};
 ghost use Rattle.fancy_prices.specs.Told.{ArePrices};
 ghost use Rattle.fancy_prices.specs.Once.{prices_once};
 ghost use Rattle.fancy_search.specs.Readings.{Reading, one_reading};
@@ -45,12 +46,13 @@ use fancy_input::refusal::SearchRefusal;
 use fancy_input::work::Work;
 use fancy_machine::search as machine;
 use fancy_prices::prices::Prices;
+use fancy_required::text::RequiredText;
 use fancy_runner::notes::KeptTable;
 use fancy_runner::search as runner;
 use fancy_syntax::parse::{Parsed, parse_with};
 use fancy_tree::error::{CompileError, Error, Result, RuntimeError};
 use fancy_tree::name::Names;
-use fancy_tree::tree::Meaning;
+use fancy_tree::tree::{Meaning, Tree};
 use std::alloc::{AllocError, Global};
 
 /// A haystack of fewer bytes is short.
@@ -74,6 +76,8 @@ pub struct Program {
     shortest: Lengths,
     /// The bytes that every haystack with a match has.
     required: RequiredBytes,
+    /// The text that every match has in it, where it is looked for before those bytes.
+    text_required: Option<RequiredText>,
     /// What is told of the machine's attempts.
     prices: Prices,
     pub ghost reading: { Reading options (string_bytes text) } by { one_reading options (string_bytes text) },
@@ -86,6 +90,7 @@ pub struct Program {
     pub ghost limited: { ForSome options.step_limit (λ most. most < 2 ^ 64) },
     ghost starts: { has_keep_start_in_look_around reading.0 ≡ false },
     ghost needed: { AreRequired (meaning_in options) reading.0 required },
+    ghost held: { ForSome text_required (λ t. t ≡ required_text (meaning_in options) reading.0) },
     ghost priced: { ArePrices prices code } by { prices_once prices code },
     ghost whole: { keeps_characters options.bytes_mode ≡ true → has_raw_byte reading.0 ≡ false },
 }
@@ -110,6 +115,21 @@ fn prices_of(alloc: Global, code: &Code, easy: bool) -> std::result::Result<Pric
         return Ok(Prices::none(alloc));
     }
     Prices::of(alloc, code)
+}
+
+/// The text that every match has in it. For a hard pattern none is looked for.
+fn required_text_of(
+    alloc: Global,
+    tree: &Tree,
+    meaning: Meaning,
+    easy: bool,
+) -> std::result::Result<Option<RequiredText>, AllocError>
+    ensures { IfOk result (λ o. IfSome o (λ t. t ≡ required_text meaning (pattern_of tree.now))) }
+{
+    if !easy {
+        return Ok(None);
+    }
+    RequiredText::new(alloc, tree, meaning)
 }
 
 impl Program {
@@ -147,6 +167,7 @@ impl Program {
         let plain = is_worth_following(&code);
         let shortest = shortest_followed(&code);
         let required = RequiredBytes::new(alloc, &tree, options.meaning())?;
+        let text_required = required_text_of(alloc, &tree, options.meaning(), easy)?;
         let prices = prices_of(alloc, &code, easy)?;
         let text = String::from_str(alloc, pattern)?;
         Ok(Program {
@@ -158,6 +179,7 @@ impl Program {
             plain,
             shortest,
             required,
+            text_required,
             prices,
         })
     }
@@ -419,7 +441,7 @@ impl Program {
         }
     }
 
-    /// Whether a byte that the pattern requires was looked for, and does not stand in the haystack: then nothing is found.
+    /// Whether a text or a byte that the pattern requires was looked for, and does not stand in the haystack: then nothing is found.
     #[inline]
     fn is_hopeless(&self, asked: &Asked<'_>, known: &mut KnownBytes) -> bool
         requires known { AreKnown known.old asked.now.haystack.now }
@@ -430,12 +452,35 @@ impl Program {
         ensures hard { IsHardProgram self.now → result ≡ true
             → is_hopeless self.now (query_in self.now asked.now) ≡ true }
     {
+        if !self.looks_for_required(asked) {
+            return false;
+        }
+        if self.lacks_text(asked) {
+            return true;
+        }
         let start = asked.request.effective_start();
-        self.looks_for_required(asked) && self.required.are_lacking(asked.haystack, start, known)
+        self.required.are_lacking(asked.haystack, start, known)
     }
 
-    /// Whether a search begins with a look for the bytes that the pattern requires: where it seeks, and for an easy pattern also
-    /// where all of the haystack is searched.
+    /// Whether the text that every match has in it was looked for, and stands nowhere in what is searched. Under `seek`, which is
+    /// defined by bytes, it is not looked for.
+    fn lacks_text(&self, asked: &Asked<'_>) -> bool
+        ensures none { result ≡ true → search (query_in self.now asked.now) ≡ None }
+        ensures unsought { result ≡ true → (program_options self.now).seek ≡ false }
+    {
+        let request = asked.request;
+        let start = request.effective_start();
+        if self.options.seek || start > request.range_end {
+            return false;
+        }
+        match &self.text_required {
+            None => false,
+            Some(text) => text.is_lacking(asked.haystack, start, request.range_end),
+        }
+    }
+
+    /// Whether a search begins with a look for what the pattern requires: where it seeks, and for an easy pattern also where all of
+    /// the haystack is searched.
     #[inline]
     fn looks_for_required(&self, asked: &Asked<'_>) -> bool
         ensures seeks { (program_options self.now).seek ≡ true → result ≡ true }
