@@ -1,21 +1,29 @@
 -- What the longest match at a place says of the token there.
-use Rattle.std.proofs.Common.{◌≡◌, ℕ, zero, suc, ◌<◌, ◌≤◌, Bool, true, false, List, [], ◌∷◌, Option, Some, None, is_some, option_map, if◌then◌else◌, slice_get, length, refl, sym, ap, subst, ◌∙◌, arith}
+use Rattle.std.proofs.Common.{◌≡◌, ℕ, zero, suc, ◌<◌, ◌≤◌, Bool, true, false, List, [], ◌∷◌, Option, Some, None, is_some, option_map, if◌then◌else◌, slice_get, refl, sym, ap, subst, ◌∙◌, arith}
 use Rattle.std.specs.Option.{option_and_then}
 use Rattle.fancy_tree.specs.declared.error.Error.{Error}
 use Rattle.fancy_tree.specs.declared.error.Error.TheVariants.{Memory}
+use Rattle.std.proofs.lemmas.Option.{same_Some}
 use Rattle.fancy_input.specs.declared.span.Span.{Span}
 use Rattle.fancy_input.specs.Spans.{from_to}
+use Rattle.fancy_code.specs.declared.found.Found.{Found}
+use Rattle.fancy_code.specs.Queries.{answer_with}
 use Rattle.fancy_code.specs.Search.{Answer, answer_at, attempt, span_of}
+use Rattle.fancy_search.specs.declared.cache.Cache.{Cache}
+use Rattle.fancy_search.specs.Cached.{found_at}
 use Rattle.fancy_search.specs.Groups.{span_at, spans_of}
+use Rattle.fancy_core.specs.Captures.{spans_in, searched_in, found_by}
 use Rattle.fancy_core.specs.declared.regex.Regex.{Regex}
 use Rattle.fancy_core.specs.Limited.{AllowsAt}
 use Rattle.fancy_core.specs.Regexes.{group_count_in}
+use Rattle.fancy_regex.specs.declared.tokens.token.Token.{Token}
+use Rattle.fancy_regex.specs.LongestMatches.{EndsBy, IsTokenTo}
 use Rattle.fancy_regex.specs.SetMembers.{SetQuery, asked, IsMemberItem}
 use Rattle.fancy_regex.specs.Tokens.{placed_at, found_by_member, token_at, tokens_from, KeepLimits, KeepsLimitAt}
-use Rattle.fancy_regex.specs.TokenLists.{IsRefusedByMember}
+use Rattle.fancy_regex.specs.TokenLists.{IsRefusedByMember, token_pattern, token_captures}
 use Rattle.fancy_regex.proofs.SetLemmas.{some_group}
 use Rattle.fancy_regex.proofs.SetCandidateLemmas.{answers_start}
-use Rattle.fancy_regex.proofs.TokenLemmas.{first_and_rest}
+use Rattle.fancy_regex.proofs.TokenLemmas.{first_and_rest, found_offers, offered_where}
 
 -- group 0 of what was found
 zero_group : (n : ℕ) (a : Answer) → 1 ≤ n → span_at (spans_of n a) 0 ≡ Some (span_of a)
@@ -45,23 +53,44 @@ module _ (q : SetQuery) (p : ℕ) where
       let same : r ≡ other = cc in
       subst (λ (x : Regex). AllowsAt x (asked (placed_at q p) x) p) same allowed
 
-  pub item_of_found : (k : ℕ) (r found_by : Regex) (a : Answer) (spans : List (Option Span)) → slice_get q.members k ≡ Some r → found_by_member q p k ≡ Some a → found_by ≡ r
-      → spans ≡ spans_of (group_count_in r) a → KeepsLimitAt q p k → IsMemberItem (placed_at q p) p k found_by spans
-  item_of_found k r found_by a spans is finds same groups allowed = rw (same, groups) (record {
+  pub item_of_found : (k : ℕ) (r regex : Regex) (a : Answer) (spans : List (Option Span)) → slice_get q.members k ≡ Some r → found_by_member q p k ≡ Some a → regex ≡ r
+      → spans ≡ spans_of (group_count_in r) a → KeepsLimitAt q p k → IsMemberItem (placed_at q p) p k regex spans
+  item_of_found k r regex a spans is finds same groups allowed = rw (same, groups) (record {
     is = ∣ is ∣₁;
     groups = ap (option_map (spans_of (group_count_in r))) (found_by_that k r a is finds);
     allowed = allowed r is;
   })
 
-  pub limits_below : (n m : ℕ) → m ≤ n → KeepLimits q p n → KeepLimits q p m
-  limits_below n m le keep k r below is may = keep k r (omega (arith, le, below)) is may
-
-  pub out_of_memory_at : (k : ℕ) (r : Regex) (e : Error) (a : Answer) → slice_get q.members k ≡ Some r → found_by_member q p k ≡ Some a → e ≡ Memory → k < length q.members → KeepLimits q p (length q.members) → IsRefusedByMember q p e
-  out_of_memory_at k r e a is finds same inside keep = rw same (record {
+  pub out_of_memory_at : (k : ℕ) (r : Regex) (e : Error) (a : Answer) → slice_get q.members k ≡ Some r → found_by_member q p k ≡ Some a → e ≡ Memory → KeepLimits q p k → IsRefusedByMember q p e
+  out_of_memory_at k r e a is finds same keep = rw same (record {
     index = k;
     refuses = record { member = r; is = is; starts = answers_start (placed_at q p) p r (attempted _ a (answer_at (asked (placed_at q p) r) p) (found_by_that k r a is finds)); refuses = tt };
-    limits = limits_below (length q.members) k (omega (arith, inside)) keep;
+    limits = keep;
   })
+
+  -- what a member found is its token, if it starts there and is not empty
+  pub token_of_found : {S : Type 0} {g : _} (haystack : S) (k : ℕ) (r : Regex) (f : Found) (cache : Cache) (t : Token S g) → slice_get q.members k ≡ Some r
+      → found_by_member q p k ≡ Some (found_at f cache) → f.start ≡ p → p < f.end → KeepsLimitAt q p k
+      → token_pattern t ≡ k → found_by (token_captures t) ≡ r → spans_in (token_captures t) ≡ spans_of (group_count_in r) (found_at f cache) → searched_in (token_captures t) ≡ haystack
+      → IsTokenTo q haystack p f.end t
+  token_of_found haystack k r f cache t is finds starts filled allowed is_of regex spans within = record {
+    moves = filled;
+    span = whole_span r (found_at f cache) _ p spans starts;
+    offered = rw is_of (found_offers q p k (found_at f cache) finds ∙ offered_where p k (found_at f cache) starts filled);
+    item = rw is_of (item_of_found k r _ (found_at f cache) _ is finds regex spans allowed);
+    within = within;
+  }
+
+  -- what it found starts there and ends further on in no case
+  pub found_by_end : (k end : ℕ) (groups : List (Option Span)) (found : Option Found) → EndsBy p end found → answer_with groups found ≡ found_by_member q p k
+      → (a : Answer) → found_by_member q p k ≡ Some a → a.state.kept ≡ p → a.state.place ≤ end
+  found_by_end k end groups None by same a is kept = absurd (let no : None ≡ Some a = same ∙ is in cc)
+  found_by_end k end groups (Some f) by same a is kept =
+      let one = same_Some _ a (same ∙ is) in
+      let start = ap (λ (x : Answer). x.state.kept) one in
+      let ends = ap (λ (x : Answer). x.state.place) one in
+      let most = by f refl (start ∙ kept) in
+      omega (arith, most, ends)
 
 -- what is left of a list that has not ended, where there is a token
 pub goes_on_with : (q : SetQuery) (p pattern end other : ℕ) (ended : Bool) → ended ≡ false → token_at q p ≡ Some (record { pattern = pattern; start = p; end = end }) → other ≡ end

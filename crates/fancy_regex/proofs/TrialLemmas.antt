@@ -10,6 +10,7 @@ use Rattle.fancy_search.specs.declared.cache.AttemptNotes.{AttemptNotes}
 use Rattle.fancy_code.specs.declared.found.Found.{Found}
 use Rattle.fancy_search.specs.KeptTables.{KeepsNotes, kept_from}
 use Rattle.fancy_search.proofs.KeptTablesLemmas.{noted_later}
+use Rattle.fancy_regex.specs.LongestMatches.{EndsBy}
 use Rattle.fancy_regex.specs.SetMembers.{SetQuery}
 use Rattle.fancy_regex.specs.declared.set.trials.Trials.{Trials}
 use Rattle.fancy_regex.specs.Trials.{notes_at, NotedAt, AreNoted, AreNotedFrom, AreNotedBelow, IsOldOrNew, OthersStay, OthersStayBut}
@@ -21,12 +22,20 @@ either_one m n = elim (either_side m n) [ inl lt ↦ inr (λ e. omega (arith, lt
   at (inl lt) ge = inr (λ e. omega (arith, lt, e))
   at (inr le) ge = inl (omega (arith, ge, le))
 
--- a match that starts at a place and is no longer than one so far ends where that does or before
-pub reaches_short : (found : Option Found) (f : Found) (place end : ℕ) → found ≡ Some f → place ≤ end → (f.start ≡ place → f.end ≤ end) → kept_from found place ≤ end
-reaches_short found f place end is le short = rw is (at (nat_eq f.start place) refl) where
+-- where no match that was found at a place ends past an end, the notes are kept from that end on
+pub reaches : (place end : ℕ) (found : Option Found) → place ≤ end → EndsBy place end found → kept_from found place ≤ end
+reaches place end None le by = le
+reaches place end (Some f) le by = at (nat_eq f.start place) refl where
   at : (b : Bool) → nat_eq f.start place ≡ b → (if b then f.end else place) ≤ end
-  at true e = short (eqb-true f.start place e)
+  at true e = by f refl (eqb-true f.start place e)
   at false e = le
+
+-- so they are from the end of one that was found
+pub reaches_it : (place : ℕ) (found : Option Found) (f : Found) → found ≡ Some f → place ≤ f.end → kept_from found place ≤ f.end
+reaches_it place found f is le = subst (λ (o : Option Found). kept_from o place ≤ f.end) (sym is) (at (nat_eq f.start place)) where
+  at : (b : Bool) → (if b then f.end else place) ≤ f.end
+  at true = omega arith
+  at false = le
 
 -- notes that nothing was found out in are new
 pub noted_pushed : (xs : List AttemptNotes) (x : AttemptNotes) (k : ℕ) → x.kept ≡ None → IsOldOrNew (slice_get xs k) (slice_get (xs ++ x ∷ []) k)

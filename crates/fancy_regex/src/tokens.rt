@@ -17,7 +17,6 @@ use crate::set::RegexSet;
 use crate::set::trials::Trials;
 use fancy_input::input::{Haystack, Input};
 use fancy_input::regex_input::RegexInput;
-use fancy_search::cache::Cache;
 use fancy_tree::error::Result;
 pub use token::Token;
 
@@ -35,9 +34,8 @@ pub struct Tokens<'r, S: Haystack> {
     // where the next token starts, as a byte offset
     place: usize,
     ended: bool,
-    // what the patterns are tried in, and what the longest match so far was found in
+    // what the patterns are tried in
     trials: Trials,
-    longest: Cache,
     ghost searched: { CanSearchAll S.text S.bytes set.now input },
     ghost starts: { (request_in input).range_start ≤ place },
     ghost known: { AreKnown trials.cache.known (S.bytes (haystack_in input)) },
@@ -74,7 +72,6 @@ impl RegexSet {
             place,
             ended: false,
             trials: Trials::new(alloc),
-            longest: Cache::new(alloc),
         }
     }
 }
@@ -121,7 +118,7 @@ impl<'r, S: Input> Iterator for Tokens<'r, S> {
             return None;
         }
         let set = self.set;
-        match set.token_at(&self.input, self.place, &mut self.trials, &mut self.longest) {
+        match set.token_at(&self.input, self.place, &mut self.trials) {
             Ok(token) => {
                 self.place = token.end();
                 Some(Ok(token))
