@@ -34,12 +34,21 @@ use std::fmt;
 /// Regex::new(alloc, "a|ab")?.find("xab")    // Some: 1..2, as the first branch is preferred
 /// Regex::new(alloc, "a\\Kb")?.find("xab")   // Some: 2..3, though it was tried from 1 on
 /// ```
-#[derive(Drop)]
 pub struct Regex {
     pattern: String,
     pub(crate) program: Program,
     pub ghost spelled: { ∥ IsSpelled (program_options program) (string_bytes pattern)
         (program_pattern program) (program_groups program) (program_names program) ∥₁ },
+}
+
+/// By hand, so that crates above do not prove it once more.
+impl Drop for Regex {
+    fn drop(self) {
+        let Regex {
+            pattern: _,
+            program: _,
+        } = self;
+    }
 }
 
 impl Regex {

@@ -89,11 +89,17 @@ const READ_PAST: usize = 1024;
 const MADE_UP: usize = 4;
 
 /// What the attempts with one program in one haystack found out, kept from position to position.
-#[derive(Drop)]
 pub struct AttemptNotes {
     // which table is kept in the notes, if one is
     pub(crate) kept: Option<KeptTable>,
     pub(crate) notes: Notes,
+}
+
+/// By hand, so that crates above do not prove it once more.
+impl Drop for AttemptNotes {
+    fn drop(self) {
+        let AttemptNotes { kept: _, notes: _ } = self;
+    }
 }
 
 impl AttemptNotes {
@@ -140,7 +146,6 @@ impl AttemptCache {
 }
 
 /// What searches work in, reused from one to the next, with the groups of the last match.
-#[derive(Drop)]
 pub struct Cache {
     pub(crate) runner: runner::Cache,
     pub(crate) machine: machine::Cache,
@@ -149,6 +154,19 @@ pub struct Cache {
     read_past: usize,
     /// Which engine worked in it last.
     pub(crate) served: Engine,
+}
+
+/// By hand, so that crates above do not prove it once more.
+impl Drop for Cache {
+    fn drop(self) {
+        let Cache {
+            runner: _,
+            machine: _,
+            cells: _,
+            read_past: _,
+            served: _,
+        } = self;
+    }
 }
 
 impl Cache {
