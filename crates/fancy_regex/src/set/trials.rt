@@ -27,12 +27,18 @@ use fancy_tree::error::{Error, Result};
 use std::alloc::Global;
 
 /// What the members of a set are tried in, in one haystack.
-#[derive(Drop)]
 pub(crate) struct Trials {
     // what each member found out, up to the last that was tried
     notes: Vec<AttemptNotes>,
     /// What all members are tried in.
     pub(crate) cache: AttemptCache,
+}
+
+/// By hand, so that crates above do not prove it once more.
+impl Drop for Trials {
+    fn drop(self) {
+        let Trials { notes: _, cache: _ } = self;
+    }
 }
 
 impl Trials {
