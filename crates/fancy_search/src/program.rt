@@ -106,6 +106,7 @@ impl Drop for Program {
             plain: _,
             shortest: _,
             required: _,
+            text_required: _,
             prices: _,
         } = self;
     }
