@@ -11,7 +11,7 @@ ghost use Rattle.fancy_core.specs.Regexes.{options_in, program_in, easy_in, grou
 ghost use Rattle.fancy_core.specs.Searches.{CanSearchInput, asked_by, groups_of_attempt};
 ghost use Rattle.fancy_search.specs.Cached.{IsAttemptIn, found_at};
 ghost use Rattle.fancy_search.specs.Groups.{AreCut, spans_of};
-ghost use Rattle.fancy_search.specs.KeptTables.{KeepsNotes, kept_from, notes_ahead, notes_again};
+ghost use Rattle.fancy_search.specs.KeptTables.{KeepsNotes, kept_from, notes_ahead, notes_to_go};
 ghost use Rattle.fancy_search.specs.SearchCounts.{IsOutOfSteps};
 ghost use Rattle.fancy_search.specs.Searching.{Suits};
 ghost use Rattle.fancy_tree.specs.declared.error.Error.TheVariants.{Memory};
@@ -56,25 +56,34 @@ pub fn attempt_at<'r, S: Input>(
     requires starts { effective_start (request_in input) ≤ position }
     requires ends { position ≤ (request_in input).range_end }
     requires known { AreKnown cache.old.known (S.bytes (haystack_in input)) }
-    requires notes { KeepsNotes (program_in regex.now) (S.bytes (haystack_in input)) (request_in input) position notes.old }
+    requires notes { KeepsNotes (program_in regex.now) (S.bytes (haystack_in input))
+        (request_in input) position notes.old }
     ensures notes { IfOk result (λ m. IfNone m
-        (KeepsNotes (program_in regex.now) (S.bytes (haystack_in input)) (request_in input) position notes.new)) }
+        (KeepsNotes (program_in regex.now) (S.bytes (haystack_in input)) (request_in input) position
+        notes.new)) }
     ensures known { AreKnown cache.new.known (S.bytes (haystack_in input)) }
     ensures bounded { easy_in regex.now ≡ true → steps_of cache.new.work ≤ steps_of cache.old.work
-        + (notes_ahead (program_in regex.now) (request_in input) position notes.old + notes_again (program_in regex.now) position notes.old) }
+        + notes_to_go (program_in regex.now) (request_in input) position notes.old }
     ensures spent { easy_in regex.now ≡ true → IfOk result (λ m. IfNone m
-        (steps_of cache.new.work + notes_ahead (program_in regex.now) (request_in input) (position + 1) notes.new ≤ steps_of cache.old.work
-        + (notes_ahead (program_in regex.now) (request_in input) position notes.old + notes_again (program_in regex.now) position notes.old))) }
-    ensures paired { returns_of cache.old.work ≤ steps_of cache.old.work → returns_of cache.new.work ≤ steps_of cache.new.work }
-    ensures limit { IsWithin (step_limit_in regex.now) cache.old.work → IsWithin (step_limit_in regex.now) cache.new.work }
+        (steps_of cache.new.work
+        + notes_ahead (program_in regex.now) (request_in input) (position + 1) notes.new
+        ≤ steps_of cache.old.work
+        + notes_to_go (program_in regex.now) (request_in input) position notes.old)) }
+    ensures paired { returns_of cache.old.work ≤ steps_of cache.old.work
+        → returns_of cache.new.work ≤ steps_of cache.new.work }
+    ensures limit { IsWithin (step_limit_in regex.now) cache.old.work
+        → IsWithin (step_limit_in regex.now) cache.new.work }
     ensures limited { IsOutOfSteps result → IsSpent (step_limit_in regex.now) cache.new.work }
     ensures units { easy_in regex.now ≡ true → units_of cache.new.work ≡ units_of cache.old.work }
     ensures grows { work_of cache.old.work ≤ work_of cache.new.work }
-    ensures found { IfOk result (λ m. spans_if m ≡ groups_of_attempt (asked_by regex.now S.bytes input) position) }
+    ensures found { IfOk result (λ m.
+        spans_if m ≡ groups_of_attempt (asked_by regex.now S.bytes input) position) }
     ensures within { IfOk result (λ m. IfSome m (λ c. searched_in c ≡ haystack_in input)) }
     ensures regex { IfOk result (λ m. IfSome m (λ c. found_by c ≡ regex.now)) }
-    ensures refused { IfErr result (λ e. RefusesAt regex.now (asked_by regex.now S.bytes input) position e) }
-    ensures allowed { IfOk result (λ _. AllowsAt regex.now (asked_by regex.now S.bytes input) position) }
+    ensures refused { IfErr result (λ e.
+        RefusesAt regex.now (asked_by regex.now S.bytes input) position e) }
+    ensures allowed { IfOk result (λ _.
+        AllowsAt regex.now (asked_by regex.now S.bytes input) position) }
 {
     let found = capture_at(
         regex,
@@ -101,25 +110,33 @@ fn capture_at<'r, S: Input>(
     requires starts { effective_start request ≤ position }
     requires ends { position ≤ request.range_end }
     requires known { AreKnown cache.old.known (S.bytes haystack) }
-    requires notes { KeepsNotes (program_in regex.now) (S.bytes haystack) request position notes.old }
+    requires notes { KeepsNotes (program_in regex.now) (S.bytes haystack) request position
+        notes.old }
     ensures notes { IfOk result (λ m. IfNone m
         (KeepsNotes (program_in regex.now) (S.bytes haystack) request position notes.new)) }
     ensures known { AreKnown cache.new.known (S.bytes haystack) }
     ensures bounded { easy_in regex.now ≡ true → steps_of cache.new.work ≤ steps_of cache.old.work
-        + (notes_ahead (program_in regex.now) request position notes.old + notes_again (program_in regex.now) position notes.old) }
+        + notes_to_go (program_in regex.now) request position notes.old }
     ensures spent { easy_in regex.now ≡ true → IfOk result (λ m. IfNone m
-        (steps_of cache.new.work + notes_ahead (program_in regex.now) request (position + 1) notes.new ≤ steps_of cache.old.work
-        + (notes_ahead (program_in regex.now) request position notes.old + notes_again (program_in regex.now) position notes.old))) }
-    ensures paired { returns_of cache.old.work ≤ steps_of cache.old.work → returns_of cache.new.work ≤ steps_of cache.new.work }
-    ensures limit { IsWithin (step_limit_in regex.now) cache.old.work → IsWithin (step_limit_in regex.now) cache.new.work }
+        (steps_of cache.new.work
+        + notes_ahead (program_in regex.now) request (position + 1) notes.new
+        ≤ steps_of cache.old.work
+        + notes_to_go (program_in regex.now) request position notes.old)) }
+    ensures paired { returns_of cache.old.work ≤ steps_of cache.old.work
+        → returns_of cache.new.work ≤ steps_of cache.new.work }
+    ensures limit { IsWithin (step_limit_in regex.now) cache.old.work
+        → IsWithin (step_limit_in regex.now) cache.new.work }
     ensures limited { IsOutOfSteps result → IsSpent (step_limit_in regex.now) cache.new.work }
     ensures units { easy_in regex.now ≡ true → units_of cache.new.work ≡ units_of cache.old.work }
     ensures grows { work_of cache.old.work ≤ work_of cache.new.work }
-    ensures found { IfOk result (λ m. spans_if m ≡ groups_of_attempt (query regex.now (S.bytes haystack) request) position) }
+    ensures found { IfOk result (λ m.
+        spans_if m ≡ groups_of_attempt (query regex.now (S.bytes haystack) request) position) }
     ensures within { IfOk result (λ m. IfSome m (λ c. searched_in c ≡ haystack)) }
     ensures regex { IfOk result (λ m. IfSome m (λ c. found_by c ≡ regex.now)) }
-    ensures refused { IfErr result (λ e. RefusesAt regex.now (query regex.now (S.bytes haystack) request) position e) }
-    ensures allowed { IfOk result (λ _. AllowsAt regex.now (query regex.now (S.bytes haystack) request) position) }
+    ensures refused { IfErr result (λ e.
+        RefusesAt regex.now (query regex.now (S.bytes haystack) request) position e) }
+    ensures allowed { IfOk result (λ _.
+        AllowsAt regex.now (query regex.now (S.bytes haystack) request) position) }
 {
     let bytes = haystack.as_bytes();
     let Some(found) = find_at(regex, bytes, request, position, notes, cache)? else {
@@ -148,21 +165,29 @@ pub fn find_at(
     requires known { AreKnown cache.old.known haystack.now }
     requires notes { KeepsNotes (program_in regex.now) haystack.now request position notes.old }
     ensures notes { IfOk result
-        (λ m. KeepsNotes (program_in regex.now) haystack.now request (kept_from m position) notes.new) }
+        (λ m. KeepsNotes (program_in regex.now) haystack.now request (kept_from m position)
+        notes.new) }
     ensures known { AreKnown cache.new.known haystack.now }
     ensures bounded { easy_in regex.now ≡ true → steps_of cache.new.work ≤ steps_of cache.old.work
-        + (notes_ahead (program_in regex.now) request position notes.old + notes_again (program_in regex.now) position notes.old) }
+        + notes_to_go (program_in regex.now) request position notes.old }
     ensures spent { easy_in regex.now ≡ true → IfOk result (λ m. IfNone m
-        (steps_of cache.new.work + notes_ahead (program_in regex.now) request (position + 1) notes.new ≤ steps_of cache.old.work
-        + (notes_ahead (program_in regex.now) request position notes.old + notes_again (program_in regex.now) position notes.old))) }
-    ensures paired { returns_of cache.old.work ≤ steps_of cache.old.work → returns_of cache.new.work ≤ steps_of cache.new.work }
-    ensures limit { IsWithin (step_limit_in regex.now) cache.old.work → IsWithin (step_limit_in regex.now) cache.new.work }
+        (steps_of cache.new.work
+        + notes_ahead (program_in regex.now) request (position + 1) notes.new
+        ≤ steps_of cache.old.work
+        + notes_to_go (program_in regex.now) request position notes.old)) }
+    ensures paired { returns_of cache.old.work ≤ steps_of cache.old.work
+        → returns_of cache.new.work ≤ steps_of cache.new.work }
+    ensures limit { IsWithin (step_limit_in regex.now) cache.old.work
+        → IsWithin (step_limit_in regex.now) cache.new.work }
     ensures limited { IsOutOfSteps result → IsSpent (step_limit_in regex.now) cache.new.work }
     ensures units { easy_in regex.now ≡ true → units_of cache.new.work ≡ units_of cache.old.work }
     ensures grows { work_of cache.old.work ≤ work_of cache.new.work }
-    ensures found { IfOk result (λ m. IsAttemptIn m cache.new.engines (query regex.now haystack.now request) position) }
-    ensures refused { IfErr result (λ e. RefusesAt regex.now (query regex.now haystack.now request) position e) }
-    ensures allowed { IfOk result (λ _. AllowsAt regex.now (query regex.now haystack.now request) position) }
+    ensures found { IfOk result (λ m.
+        IsAttemptIn m cache.new.engines (query regex.now haystack.now request) position) }
+    ensures refused { IfErr result (λ e.
+        RefusesAt regex.now (query regex.now haystack.now request) position e) }
+    ensures allowed { IfOk result (λ _.
+        AllowsAt regex.now (query regex.now haystack.now request) position) }
 {
     let asked = Asked {
         haystack,
@@ -189,7 +214,8 @@ pub fn captures_found<'r, S: Input>(
 ) -> Result<Captures<'r, S>>
     requires cut { AreCut (S.text haystack) (S.bytes haystack)
         (spans_of (group_count_in regex.now) (found_at found cache.now)) }
-    ensures groups { IfOk result (λ c. spans_in c ≡ spans_of (group_count_in regex.now) (found_at found cache.now)) }
+    ensures groups { IfOk result (λ c.
+        spans_in c ≡ spans_of (group_count_in regex.now) (found_at found cache.now)) }
     ensures within { IfOk result (λ c. searched_in c ≡ haystack) }
     ensures regex { IfOk result (λ c. found_by c ≡ regex.now) }
     ensures refused { IfErr result (λ e. e ≡ Memory) }

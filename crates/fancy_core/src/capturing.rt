@@ -29,11 +29,14 @@ impl Regex {
     /// It is refused as [`Regex::find_input`] is.
     pub fn captures<'r, S: Input>(&'r self, haystack: S) -> Result<Option<Captures<'r, S>>>
         requires suits { Suits (options_in self.now) (S.text haystack) (S.bytes haystack) }
-        ensures found { IfOk result (λ m. spans_if m ≡ first_groups (asked_whole self.now S.bytes haystack)) }
+        ensures found { IfOk result (λ m.
+            spans_if m ≡ first_groups (asked_whole self.now S.bytes haystack)) }
         ensures within { IfOk result (λ m. IfSome m (λ c. searched_in c ≡ haystack)) }
         ensures regex { IfOk result (λ m. IfSome m (λ c. found_by c ≡ self.now)) }
-        ensures refused { IfErr result (λ e. Refuses self.now (asked_whole self.now S.bytes haystack) e) }
-        ensures allowed { IfOk result (λ _. Allows self.now (asked_whole self.now S.bytes haystack)) }
+        ensures refused { IfErr result (λ e.
+            Refuses self.now (asked_whole self.now S.bytes haystack) e) }
+        ensures allowed { IfOk result (λ _.
+            Allows self.now (asked_whole self.now S.bytes haystack)) }
     {
         let input = RegexInput::new(haystack);
         let found = self.captures_input(input)?;
@@ -55,11 +58,14 @@ impl Regex {
     ) -> Result<Option<Captures<'r, S>>>
         requires suits { Suits (options_in self.now) (S.text haystack) (S.bytes haystack) }
         requires starts { StartsCleanly (S.text haystack) (S.bytes haystack) start }
-        ensures found { IfOk result (λ m. spans_if m ≡ first_groups (asked_from self.now S.bytes haystack start)) }
+        ensures found { IfOk result (λ m.
+            spans_if m ≡ first_groups (asked_from self.now S.bytes haystack start)) }
         ensures within { IfOk result (λ m. IfSome m (λ c. searched_in c ≡ haystack)) }
         ensures regex { IfOk result (λ m. IfSome m (λ c. found_by c ≡ self.now)) }
-        ensures refused { IfErr result (λ e. Refuses self.now (asked_from self.now S.bytes haystack start) e) }
-        ensures allowed { IfOk result (λ _. Allows self.now (asked_from self.now S.bytes haystack start)) }
+        ensures refused { IfErr result (λ e.
+            Refuses self.now (asked_from self.now S.bytes haystack start) e) }
+        ensures allowed { IfOk result (λ _.
+            Allows self.now (asked_from self.now S.bytes haystack start)) }
     {
         let input = RegexInput::new(haystack).from_pos(start);
         let found = self.captures_input(input)?;
@@ -77,7 +83,8 @@ impl Regex {
         input: RegexInput<S>,
     ) -> Result<Option<Captures<'r, S>>>
         requires searched { CanSearchInput S.text S.bytes (options_in self.now) input }
-        ensures found { IfOk result (λ m. spans_if m ≡ first_groups (asked_by self.now S.bytes input)) }
+        ensures found { IfOk result (λ m.
+            spans_if m ≡ first_groups (asked_by self.now S.bytes input)) }
         ensures within { IfOk result (λ m. IfSome m (λ c. searched_in c ≡ haystack_in input)) }
         ensures regex { IfOk result (λ m. IfSome m (λ c. found_by c ≡ self.now)) }
         ensures refused { IfErr result (λ e. Refuses self.now (asked_by self.now S.bytes input) e) }
@@ -99,12 +106,16 @@ impl Regex {
     ) -> Result<Option<Captures<'r, S>>>
         requires inside { request.range_end ≤ length (S.bytes haystack) }
         requires suits { Suits (options_in self.now) (S.text haystack) (S.bytes haystack) }
-        ensures found { IfOk result (λ m. spans_if m ≡ first_groups (query self.now (S.bytes haystack) request)) }
+        ensures found { IfOk result (λ m.
+            spans_if m ≡ first_groups (query self.now (S.bytes haystack) request)) }
         ensures within { IfOk result (λ m. IfSome m (λ c. searched_in c ≡ haystack)) }
         ensures regex { IfOk result (λ m. IfSome m (λ c. found_by c ≡ self.now)) }
-        ensures refused { IfErr result (λ e. Refuses self.now (query self.now (S.bytes haystack) request) e) }
-        ensures allowed { IfOk result (λ _. Allows self.now (query self.now (S.bytes haystack) request)) }
-        ensures unlimited { easy_in self.now ≡ true → AllowsEachStep self.now request → IsOutOfSteps result → ⊥ }
+        ensures refused { IfErr result (λ e.
+            Refuses self.now (query self.now (S.bytes haystack) request) e) }
+        ensures allowed { IfOk result (λ _.
+            Allows self.now (query self.now (S.bytes haystack) request)) }
+        ensures unlimited { easy_in self.now ≡ true → AllowsEachStep self.now request
+            → IsOutOfSteps result → ⊥ }
     {
         let mut work = Work::new();
         let asked = Asked {

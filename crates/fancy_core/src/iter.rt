@@ -32,7 +32,8 @@ pub struct Matches<'r, S: Haystack> {
     regex: &'r Regex,
     searcher: Searcher<S>,
     cache: Cache,
-    ghost suits: { Suits (options_in regex.now) (S.text searcher.haystack) (S.bytes searcher.haystack) },
+    ghost suits: { Suits (options_in regex.now) (S.text searcher.haystack)
+        (S.bytes searcher.haystack) },
     ghost kept: { Keeps S.bytes regex.now.program searcher cache },
 }
 
@@ -47,8 +48,10 @@ impl Regex {
     #[tactic(auto, using(fancy_search::proofs::ScanLemmas::few_turns))]
     pub fn find_iter<S: Input>(&self, haystack: S) -> Matches<'_, S>
         requires suits { Suits (options_in self.now) (S.text haystack) (S.bytes haystack) }
-        ensures matches { left_in S.text S.bytes result ≡ matches_in_whole self.now S.text S.bytes haystack }
-        ensures end { end_in S.text S.bytes result ≡ last_start_in_whole self.now S.text S.bytes haystack }
+        ensures matches { left_in S.text S.bytes result
+            ≡ matches_in_whole self.now S.text S.bytes haystack }
+        ensures end { end_in S.text S.bytes result
+            ≡ last_start_in_whole self.now S.text S.bytes haystack }
         ensures countable { items_bound S.text S.bytes result < 2 ^ 64 }
         ensures regex { regex_in result ≡ self.now }
         ensures text { haystack_of result ≡ haystack }
@@ -70,8 +73,10 @@ impl Regex {
     #[tactic(auto, using(fancy_search::proofs::ScanLemmas::few_turns))]
     pub fn find_iter_input<S: Input>(&self, input: RegexInput<S>) -> Matches<'_, S>
         requires searched { CanSearchInput S.text S.bytes (options_in self.now) input }
-        ensures matches { left_in S.text S.bytes result ≡ matches_of_input self.now S.text S.bytes input }
-        ensures end { end_in S.text S.bytes result ≡ last_start_of_input self.now S.text S.bytes input }
+        ensures matches { left_in S.text S.bytes result
+            ≡ matches_of_input self.now S.text S.bytes input }
+        ensures end { end_in S.text S.bytes result
+            ≡ last_start_of_input self.now S.text S.bytes input }
         ensures countable { items_bound S.text S.bytes result < 2 ^ 64 }
         ensures regex { regex_in result ≡ self.now }
         ensures text { haystack_of result ≡ haystack_in input }

@@ -206,11 +206,15 @@ impl Regex {
     /// It is refused as [`Regex::find_input`] is.
     pub fn find<S: Input>(&self, haystack: S) -> Result<Option<S::Match>>
         requires suits { Suits (options_in self.now) (S.text haystack) (S.bytes haystack) }
-        ensures found { IfOk result (λ m. FindsFirst S.span m (asked_whole self.now S.bytes haystack)) }
-        ensures none { IfOk result (λ m. (m ≡ None) ↔ HasNone (asked_whole self.now S.bytes haystack)) }
+        ensures found { IfOk result (λ m.
+            FindsFirst S.span m (asked_whole self.now S.bytes haystack)) }
+        ensures none { IfOk result (λ m.
+            (m ≡ None) ↔ HasNone (asked_whole self.now S.bytes haystack)) }
         ensures within { IfOk result (λ m. IfSome m (λ x. S.within x ≡ S.bytes haystack)) }
-        ensures refused { IfErr result (λ e. Refuses self.now (asked_whole self.now S.bytes haystack) e) }
-        ensures allowed { IfOk result (λ _. Allows self.now (asked_whole self.now S.bytes haystack)) }
+        ensures refused { IfErr result (λ e.
+            Refuses self.now (asked_whole self.now S.bytes haystack) e) }
+        ensures allowed { IfOk result (λ _.
+            Allows self.now (asked_whole self.now S.bytes haystack)) }
     {
         let whole = RegexInput::new(haystack);
         let found = self.find_input(whole)?;
@@ -229,11 +233,15 @@ impl Regex {
     pub fn find_from_pos<S: Input>(&self, haystack: S, start: usize) -> Result<Option<S::Match>>
         requires suits { Suits (options_in self.now) (S.text haystack) (S.bytes haystack) }
         requires starts { StartsCleanly (S.text haystack) (S.bytes haystack) start }
-        ensures found { IfOk result (λ m. FindsFirst S.span m (asked_from self.now S.bytes haystack start)) }
-        ensures none { IfOk result (λ m. (m ≡ None) ↔ HasNone (asked_from self.now S.bytes haystack start)) }
+        ensures found { IfOk result (λ m.
+            FindsFirst S.span m (asked_from self.now S.bytes haystack start)) }
+        ensures none { IfOk result (λ m.
+            (m ≡ None) ↔ HasNone (asked_from self.now S.bytes haystack start)) }
         ensures within { IfOk result (λ m. IfSome m (λ x. S.within x ≡ S.bytes haystack)) }
-        ensures refused { IfErr result (λ e. Refuses self.now (asked_from self.now S.bytes haystack start) e) }
-        ensures allowed { IfOk result (λ _. Allows self.now (asked_from self.now S.bytes haystack start)) }
+        ensures refused { IfErr result (λ e.
+            Refuses self.now (asked_from self.now S.bytes haystack start) e) }
+        ensures allowed { IfOk result (λ _.
+            Allows self.now (asked_from self.now S.bytes haystack start)) }
     {
         let input = RegexInput::new(haystack).from_pos(start);
         let found = self.find_input(input)?;
@@ -260,7 +268,8 @@ impl Regex {
         requires searched { CanSearchInput S.text S.bytes (options_in self.now) input }
         ensures found { IfOk result (λ m. FindsFirst S.span m (asked_by self.now S.bytes input)) }
         ensures none { IfOk result (λ m. (m ≡ None) ↔ HasNone (asked_by self.now S.bytes input)) }
-        ensures within { IfOk result (λ m. IfSome m (λ x. S.within x ≡ S.bytes (haystack_in input))) }
+        ensures within { IfOk result (λ m. IfSome m (λ x.
+            S.within x ≡ S.bytes (haystack_in input))) }
         ensures refused { IfErr result (λ e. Refuses self.now (asked_by self.now S.bytes input) e) }
         ensures allowed { IfOk result (λ _. Allows self.now (asked_by self.now S.bytes input)) }
         ensures unlimited { easy_in self.now ≡ true → AllowsEachStep self.now (request_in input)
@@ -295,18 +304,24 @@ impl Regex {
     ) -> Result<Option<S::Match>>
         requires searched { CanSearchInput S.text S.bytes (options_in self.now) input }
         ensures found { IfOk result (λ m. FindsFirst S.span m (asked_by self.now S.bytes input)) }
-        ensures within { IfOk result (λ m. IfSome m (λ x. S.within x ≡ S.bytes (haystack_in input))) }
+        ensures within { IfOk result (λ m. IfSome m (λ x.
+            S.within x ≡ S.bytes (haystack_in input))) }
         ensures refused { IfErr result (λ e. Refuses self.now (asked_by self.now S.bytes input) e) }
-        ensures steps { easy_in self.now ≡ true → steps_of work.new ≤ most_steps_of self.now (request_in input) }
-        ensures idle { TriesNone self.now (asked_by self.now S.bytes input) → steps_of work.new ≡ 0 }
-        ensures nothing { TriesNone self.now (asked_by self.now S.bytes input) → IfOk result (λ m. m ≡ None) }
+        ensures steps { easy_in self.now ≡ true
+            → steps_of work.new ≤ most_steps_of self.now (request_in input) }
+        ensures idle { TriesNone self.now (asked_by self.now S.bytes input)
+            → steps_of work.new ≡ 0 }
+        ensures nothing { TriesNone self.now (asked_by self.now S.bytes input)
+            → IfOk result (λ m. m ≡ None) }
         ensures returns { returns_of work.new ≤ steps_of work.new }
         ensures counted { IsHard self.now → IfOk result
             (λ _. HasReturns self.now.program work.new (asked_by self.now S.bytes input)) }
-        ensures stopped { IsHard self.now → IsStopped result → returns_of work.new ≡ returns_limit_in self.now }
+        ensures stopped { IsHard self.now → IsStopped result
+            → returns_of work.new ≡ returns_limit_in self.now }
         ensures fits { IsHard self.now → returns_of work.new ≤ returns_limit_in self.now }
         ensures most { IsHard self.now
-            → returns_of work.new ≤ returns_taken self.now.program (asked_by self.now S.bytes input) }
+            → returns_of work.new
+            ≤ returns_taken self.now.program (asked_by self.now S.bytes input) }
         ensures limit { IsWithin (step_limit_in self.now) work.new }
         ensures spent { IsOutOfSteps result → IsSpent (step_limit_in self.now) work.new }
         ensures unlimited { easy_in self.now ≡ true → AllowsEachStep self.now (request_in input)
@@ -327,17 +342,25 @@ impl Regex {
         requires inside { request.range_end ≤ length (S.bytes haystack) }
         requires suits { Suits (options_in self.now) (S.text haystack) (S.bytes haystack) }
         requires room { HasRoomFor self.now.program request work.old }
-        ensures found { IfOk result (λ m. FindsFirst S.span m (query self.now (S.bytes haystack) request)) }
+        ensures found { IfOk result (λ m.
+            FindsFirst S.span m (query self.now (S.bytes haystack) request)) }
         ensures within { IfOk result (λ m. IfSome m (λ x. S.within x ≡ S.bytes haystack)) }
-        ensures refused { IfErr result (λ e. Refuses self.now (query self.now (S.bytes haystack) request) e) }
-        ensures allowed { IfOk result (λ _. Allows self.now (query self.now (S.bytes haystack) request)) }
+        ensures refused { IfErr result (λ e.
+            Refuses self.now (query self.now (S.bytes haystack) request) e) }
+        ensures allowed { IfOk result (λ _.
+            Allows self.now (query self.now (S.bytes haystack) request)) }
         ensures counts { KeepsCounts self.now.program result work.old work.new }
-        ensures idle { TriesNone self.now (query self.now (S.bytes haystack) request) → steps_of work.new ≡ steps_of work.old }
-        ensures nothing { TriesNone self.now (query self.now (S.bytes haystack) request) → IfOk result (λ m. m ≡ None) }
-        ensures bounded { easy_in self.now ≡ true → steps_of work.new ≤ steps_of work.old + most_steps_of self.now request }
+        ensures idle { TriesNone self.now (query self.now (S.bytes haystack) request)
+            → steps_of work.new ≡ steps_of work.old }
+        ensures nothing { TriesNone self.now (query self.now (S.bytes haystack) request)
+            → IfOk result (λ m. m ≡ None) }
+        ensures bounded { easy_in self.now ≡ true
+            → steps_of work.new ≤ steps_of work.old + most_steps_of self.now request }
         ensures hard { IsHard self.now
-            → CountsReturns self.now.program (query self.now (S.bytes haystack) request) result work.old work.new }
-        ensures unlimited { easy_in self.now ≡ true → AllowsAllSteps self.now.program request work.old
+            → CountsReturns self.now.program (query self.now (S.bytes haystack) request) result
+            work.old work.new }
+        ensures unlimited { easy_in self.now ≡ true
+            → AllowsAllSteps self.now.program request work.old
             → IsOutOfSteps result → ⊥ }
     {
         let mut cache = Cache::new(self.allocator());
@@ -362,9 +385,12 @@ impl Regex {
     /// ```
     pub fn is_match<S: Input>(&self, haystack: S) -> Result<bool>
         requires suits { Suits (options_in self.now) (S.text haystack) (S.bytes haystack) }
-        ensures found { IfOk result (λ b. b ≡ is_some (search (asked_whole self.now S.bytes haystack))) }
-        ensures refused { IfErr result (λ e. Refuses self.now (asked_whole self.now S.bytes haystack) e) }
-        ensures allowed { IfOk result (λ _. Allows self.now (asked_whole self.now S.bytes haystack)) }
+        ensures found { IfOk result (λ b.
+            b ≡ is_some (search (asked_whole self.now S.bytes haystack))) }
+        ensures refused { IfErr result (λ e.
+            Refuses self.now (asked_whole self.now S.bytes haystack) e) }
+        ensures allowed { IfOk result (λ _.
+            Allows self.now (asked_whole self.now S.bytes haystack)) }
     {
         let input = RegexInput::new(haystack);
         let found = self.is_match_input(input)?;

@@ -28,7 +28,8 @@ impl Regex {
     ) -> Result<CowStr<'t, Global>>
         requires suits { Suits (options_in self.now) true text.now }
         requires callable { R.callable replacer }
-        ensures borrowed { IfOk result (λ t. IsBorrowedStr t ↔ (all_matches self.now text.now ≡ [])) }
+        ensures borrowed { IfOk result (λ t.
+            IsBorrowedStr t ↔ (all_matches self.now text.now ≡ [])) }
         ensures kept { IfOk result (λ t. IsBorrowedStr t → cow_str_bytes t ≡ text.now) }
         ensures text { ReplacesBy
             (replacing R.fixed R.appends R.refuses self.now text.now 1) replacer result }
@@ -50,7 +51,8 @@ impl Regex {
     ) -> Result<CowStr<'t, Global>>
         requires suits { Suits (options_in self.now) true text.now }
         requires callable { R.callable replacer }
-        ensures borrowed { IfOk result (λ t. IsBorrowedStr t ↔ (all_matches self.now text.now ≡ [])) }
+        ensures borrowed { IfOk result (λ t.
+            IsBorrowedStr t ↔ (all_matches self.now text.now ≡ [])) }
         ensures kept { IfOk result (λ t. IsBorrowedStr t → cow_str_bytes t ≡ text.now) }
         ensures text { ReplacesBy
             (replacing R.fixed R.appends R.refuses self.now text.now 0) replacer result }
@@ -73,7 +75,8 @@ impl Regex {
     ) -> Result<CowStr<'t, Global>>
         requires suits { Suits (options_in self.now) true text.now }
         requires callable { R.callable replacer }
-        ensures borrowed { IfOk result (λ t. IsBorrowedStr t ↔ (all_matches self.now text.now ≡ [])) }
+        ensures borrowed { IfOk result (λ t.
+            IsBorrowedStr t ↔ (all_matches self.now text.now ≡ [])) }
         ensures kept { IfOk result (λ t. IsBorrowedStr t → cow_str_bytes t ≡ text.now) }
         ensures text { ReplacesBy
             (replacing R.fixed R.appends R.refuses self.now text.now limit) replacer result }
@@ -104,7 +107,8 @@ impl Regex {
     ) -> Result<CowStr<'t, Global>>
         requires suits { Suits (options_in self.now) true text.now }
         requires callable { R.callable replacer }
-        ensures borrowed { IfOk result (λ t. IsBorrowedStr t ↔ (all_matches self.now text.now ≡ [])) }
+        ensures borrowed { IfOk result (λ t.
+            IsBorrowedStr t ↔ (all_matches self.now text.now ≡ [])) }
         ensures kept { IfOk result (λ t. IsBorrowedStr t → cow_str_bytes t ≡ text.now) }
         ensures text { ReplacesBy
             (replacing R.fixed R.appends R.refuses self.now text.now limit) replacer result }
@@ -137,7 +141,8 @@ impl Regex {
     ) -> Result<CowStr<'t, Global>>
         requires suits { Suits (options_in self.now) true text.now }
         requires callable { R.callable replacer.old }
-        ensures borrowed { IfOk result (λ t. IsBorrowedStr t ↔ (all_matches self.now text.now ≡ [])) }
+        ensures borrowed { IfOk result (λ t.
+            IsBorrowedStr t ↔ (all_matches self.now text.now ≡ [])) }
         ensures kept { IfOk result (λ t. IsBorrowedStr t → cow_str_bytes t ≡ text.now) }
         ensures text { Replaces (replacing R.fixed R.appends R.refuses self.now text.now limit)
             replacer.old replacer.new result }
@@ -154,7 +159,8 @@ impl Regex {
     /// The text with this one in the place of the first matches. No groups are collected.
     fn fill<'t>(&self, text: &'t str, limit: usize, fixed: &str) -> Result<CowStr<'t, Global>>
         requires suits { Suits (options_in self.now) true text.now }
-        ensures borrowed { IfOk result (λ t. IsBorrowedStr t ↔ (all_matches self.now text.now ≡ [])) }
+        ensures borrowed { IfOk result (λ t.
+            IsBorrowedStr t ↔ (all_matches self.now text.now ≡ [])) }
         ensures kept { IfOk result (λ t. IsBorrowedStr t → cow_str_bytes t ≡ text.now) }
         ensures text { IfOk result (λ t. cow_str_bytes t
             ≡ text_with_each text.now (first_matches self.now text.now limit) fixed.now) }
@@ -177,7 +183,8 @@ impl Regex {
     ) -> Result<CowStr<'t, Global>>
         requires suits { Suits (options_in self.now) true text.now }
         requires callable { R.callable replacer.old }
-        ensures borrowed { IfOk result (λ t. IsBorrowedStr t ↔ (all_matches self.now text.now ≡ [])) }
+        ensures borrowed { IfOk result (λ t.
+            IsBorrowedStr t ↔ (all_matches self.now text.now ≡ [])) }
         ensures kept { IfOk result (λ t. IsBorrowedStr t → cow_str_bytes t ≡ text.now) }
         ensures text { Replaces (replacing (λ _. None) R.appends R.refuses self.now text.now limit)
             replacer.old replacer.new result }

@@ -49,9 +49,11 @@ pub trait Replacer {
     fn replace_append(&mut self, captures: &Captures<'_, &str>, dst: &mut String) -> Result<()>
         requires { callable self.old }
         ensures ok { OnOk result
-            (AddsSome dst.old dst.new (λ t. appends self.old (seen_in_str captures.now) t self.new)) }
+            (AddsSome dst.old dst.new (λ t.
+            appends self.old (seen_in_str captures.now) t self.new)) }
         ensures kept { OnErr result (string_bytes dst.new ≡ string_bytes dst.old) }
-        ensures refused { IfErr result (λ e. refuses self.old (seen_in_str captures.now) e self.new) }
+        ensures refused { IfErr result (λ e.
+            refuses self.old (seen_in_str captures.now) e self.new) }
         ensures again { callable self.new };
 
     /// The text for all matches, if there is one. It is asked for once, before the first search.
@@ -82,5 +84,6 @@ pub trait Replacer {
     }
 
     // Where there is a text for all matches, that is what is appended.
-    ghost same: { (s t : Self) (seen : Seen) (x y : List ℕ) → fixed s ≡ Some x → appends s seen y t → y ≡ x };
+    ghost same: { (s t : Self) (seen : Seen) (x y : List ℕ) → fixed s ≡ Some x → appends s seen y t
+        → y ≡ x };
 }

@@ -49,7 +49,8 @@ pub(crate) struct Rewriting<'r, 't> {
     ghost inside: { last ≤ length searcher.haystack.now },
     ghost cleanly: { IsTrue (is_boundary searcher.haystack.now last) },
     ghost before: { searcher.ended ≡ false → last ≤ searcher.request.start },
-    ghost of_text: { searcher.request ≡ record (whole searcher.haystack.now) { start = searcher.request.start } },
+    ghost of_text: { searcher.request
+        ≡ record (whole searcher.haystack.now) { start = searcher.request.start } },
 }
 
 impl<'r, 't> Rewriting<'r, 't> {
@@ -80,11 +81,14 @@ impl<'r, 't> Rewriting<'r, 't> {
 
     /// The next match that is to be replaced, after the part before it. With none left no search is made.
     pub fn next_match(&mut self) -> Result<Option<FoundItem>>
-        ensures steps { IfOk result (λ o. MatchOption o (todo_of self.old ≡ []) (λ i. TakesFirst self.old i self.new)) }
+        ensures steps { IfOk result (λ o. MatchOption o (todo_of self.old ≡ []) (λ i.
+            TakesFirst self.old i self.new)) }
         ensures allowed { IfOk result
-            (λ o. MatchOption o (AllowsTodo self.old) (λ _. AllowsTodo self.new → AllowsTodo self.old)) }
+            (λ o. MatchOption o (AllowsTodo self.old) (λ _. AllowsTodo self.new
+            → AllowsTodo self.old)) }
         ensures written { IfOk result
-            (λ o. MatchOption o (self.new.out ≡ self.old.out) (λ i. WritesTo i.found.start self.old self.new)) }
+            (λ o. MatchOption o (self.new.out ≡ self.old.out) (λ i.
+            WritesTo i.found.start self.old self.new)) }
         ensures last { IfOk result (λ o. MatchOption o (self.new.last ≡ self.old.last)
             (λ i. self.new.last ≡ stop_of (item_in self.new.cache i))) }
         ensures left { IfOk result (λ o. IfSome o (λ _. self.new.left ≡ one_fewer self.old.left)) }
@@ -147,7 +151,8 @@ impl<'r, 't> Rewriting<'r, 't> {
     /// The new text with the rest after the last match. Where nothing matched it is the text itself, borrowed.
     pub fn finish(self) -> Result<CowStr<'t, Global>>
         ensures value { IfOk result (λ t. MatchBool self.entry.found
-            (cow_str_bytes t ≡ all_written self.entry) (cow_str_bytes t ≡ rewriting_text self.entry)) }
+            (cow_str_bytes t ≡ all_written self.entry)
+            (cow_str_bytes t ≡ rewriting_text self.entry)) }
         ensures borrowed { IfOk result (λ t. IsBorrowedStr t ↔ (self.entry.found ≡ false)) }
         ensures refused { IfErr result (λ e. e ≡ Error.Memory) }
     {

@@ -63,7 +63,8 @@ impl RegexBuilder {
     pub fn bytes_mode(&mut self, mode: BytesMode) -> &mut Self
         ensures same { result.ghost_name ≡ self.entry.ghost_name }
         ensures pattern { pattern_set result.now ≡ pattern_set self.old }
-        ensures value { options_set result.now ≡ record (options_set self.old) { bytes_mode = mode } }
+        ensures value { options_set result.now
+            ≡ record (options_set self.old) { bytes_mode = mode } }
     {
         self.options.bytes_mode(mode);
         self
@@ -73,7 +74,8 @@ impl RegexBuilder {
     pub fn unicode_mode(&mut self, yes: bool) -> &mut Self
         ensures same { result.ghost_name ≡ self.entry.ghost_name }
         ensures pattern { pattern_set result.now ≡ pattern_set self.old }
-        ensures value { options_set result.now ≡ record (options_set self.old) { unicode_mode = yes } }
+        ensures value { options_set result.now
+            ≡ record (options_set self.old) { unicode_mode = yes } }
     {
         self.options.unicode_mode(yes);
         self
@@ -105,7 +107,8 @@ impl RegexBuilder {
     pub fn dot_matches_new_line(&mut self, yes: bool) -> &mut Self
         ensures same { result.ghost_name ≡ self.entry.ghost_name }
         ensures pattern { pattern_set result.now ≡ pattern_set self.old }
-        ensures value { options_set result.now ≡ with_flags (options_set self.old) (λ f. record f { dot_all = yes }) }
+        ensures value { options_set result.now ≡ with_flags (options_set self.old) (λ f.
+            record f { dot_all = yes }) }
     {
         self.options.dot_matches_new_line(yes);
         self
@@ -136,7 +139,8 @@ impl RegexBuilder {
     pub fn crlf(&mut self, yes: bool) -> &mut Self
         ensures same { result.ghost_name ≡ self.entry.ghost_name }
         ensures pattern { pattern_set result.now ≡ pattern_set self.old }
-        ensures value { options_set result.now ≡ with_flags (options_set self.old) (λ f. record f { crlf = yes }) }
+        ensures value { options_set result.now ≡ with_flags (options_set self.old) (λ f.
+            record f { crlf = yes }) }
     {
         self.options.crlf(yes);
         self
@@ -167,7 +171,8 @@ impl RegexBuilder {
     pub fn backtrack_limit(&mut self, limit: usize) -> &mut Self
         ensures same { result.ghost_name ≡ self.entry.ghost_name }
         ensures pattern { pattern_set result.now ≡ pattern_set self.old }
-        ensures value { options_set result.now ≡ record (options_set self.old) { backtrack_limit = limit } }
+        ensures value { options_set result.now
+            ≡ record (options_set self.old) { backtrack_limit = limit } }
     {
         self.options.backtrack_limit(limit);
         self
@@ -177,7 +182,8 @@ impl RegexBuilder {
     pub fn stack_limit(&mut self, limit: usize) -> &mut Self
         ensures same { result.ghost_name ≡ self.entry.ghost_name }
         ensures pattern { pattern_set result.now ≡ pattern_set self.old }
-        ensures value { options_set result.now ≡ record (options_set self.old) { stack_limit = limit } }
+        ensures value { options_set result.now
+            ≡ record (options_set self.old) { stack_limit = limit } }
     {
         self.options.stack_limit(limit);
         self
@@ -187,7 +193,8 @@ impl RegexBuilder {
     pub fn step_limit(&mut self, limit: usize) -> &mut Self
         ensures same { result.ghost_name ≡ self.entry.ghost_name }
         ensures pattern { pattern_set result.now ≡ pattern_set self.old }
-        ensures value { options_set result.now ≡ record (options_set self.old) { step_limit = Some limit } }
+        ensures value { options_set result.now
+            ≡ record (options_set self.old) { step_limit = Some limit } }
     {
         self.options.step_limit(limit);
         self
@@ -197,7 +204,8 @@ impl RegexBuilder {
     pub fn max_prog_size(&mut self, size: usize) -> &mut Self
         ensures same { result.ghost_name ≡ self.entry.ghost_name }
         ensures pattern { pattern_set result.now ≡ pattern_set self.old }
-        ensures value { options_set result.now ≡ record (options_set self.old) { max_prog_size = Some size } }
+        ensures value { options_set result.now
+            ≡ record (options_set self.old) { max_prog_size = Some size } }
     {
         self.options.max_prog_size(size);
         self
@@ -207,7 +215,8 @@ impl RegexBuilder {
     pub fn find_not_empty(&mut self, yes: bool) -> &mut Self
         ensures same { result.ghost_name ≡ self.entry.ghost_name }
         ensures pattern { pattern_set result.now ≡ pattern_set self.old }
-        ensures value { options_set result.now ≡ record (options_set self.old) { find_not_empty = yes } }
+        ensures value { options_set result.now
+            ≡ record (options_set self.old) { find_not_empty = yes } }
     {
         self.options.find_not_empty(yes);
         self
@@ -217,7 +226,8 @@ impl RegexBuilder {
     pub fn leftmost_longest(&mut self, yes: bool) -> &mut Self
         ensures same { result.ghost_name ≡ self.entry.ghost_name }
         ensures pattern { pattern_set result.now ≡ pattern_set self.old }
-        ensures value { options_set result.now ≡ record (options_set self.old) { leftmost_longest = yes } }
+        ensures value { options_set result.now
+            ≡ record (options_set self.old) { leftmost_longest = yes } }
     {
         self.options.leftmost_longest(yes);
         self

@@ -51,7 +51,8 @@ fn is_special(c: char) -> bool
 }
 
 fn with_escapes(alloc: Global, text: &str) -> std::result::Result<String, AllocError>
-    ensures { IfOk result (λ s. string_bytes s ≡ encode_utf8_all (flat_map escaped_character (chars text.now))) }
+    ensures { IfOk result (λ s.
+        string_bytes s ≡ encode_utf8_all (flat_map escaped_character (chars text.now))) }
 {
     let mut escaped = String::new(alloc);
     for c in text.chars() {
@@ -62,7 +63,8 @@ fn with_escapes(alloc: Global, text: &str) -> std::result::Result<String, AllocE
 
 #[tactic(auto, unfolding(crate::specs::Escapes::escaped_character))]
 fn push_escaped(escaped: &mut String, c: char) -> std::result::Result<(), AllocError>
-    ensures { OnOk result (string_bytes escaped.new ≡ string_bytes escaped.old ++ encode_utf8_all (escaped_character c)) }
+    ensures { OnOk result (string_bytes escaped.new
+        ≡ string_bytes escaped.old ++ encode_utf8_all (escaped_character c)) }
 {
     match c {
         '\n' => escaped.push_str("\\n"),

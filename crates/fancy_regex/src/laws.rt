@@ -41,7 +41,8 @@ pub fn regex_is_of_its_text(_regex: &Regex)
 /// Where no size was set for the code of hard patterns, want of memory alone refuses a pattern of the dialect, and what is
 /// refused for anything else is none.
 pub fn without_a_size_memory_alone_refuses()
-    ensures pattern { (o : Options) (p : Pattern) (e : Error) → SetsNoSize o → RefusesPattern o p e → e ≡ Error.Memory }
+    ensures pattern { (o : Options) (p : Pattern) (e : Error) → SetsNoSize o → RefusesPattern o p e
+        → e ≡ Error.Memory }
     ensures text { (o : Options) (t : Text) (e : Error) → SetsNoSize o → IsRefusedUnder o t e
         → IsRefused e (dialect_of o) t }
 {}
@@ -57,7 +58,8 @@ pub fn names_stand_on_groups(_regex: &Regex, _name: &str)
 #[tactic(auto, using(fancy_search::proofs::MatchListLemmas::matches_in_order, fancy_search::proofs::ScanLemmas::scan_sound))]
 pub fn ends_increase<S: Input>(_regex: &Regex, _input: &RegexInput<S>)
     ensures order { InOrder (matches_of_input _regex.now S.text S.bytes _input.now) }
-    ensures count { FitsPlaces (request_in _input.now) (matches_of_input _regex.now S.text S.bytes _input.now) }
+    ensures count { FitsPlaces (request_in _input.now)
+        (matches_of_input _regex.now S.text S.bytes _input.now) }
 {}
 
 /// The search at the end of the list of matches finds none.
@@ -94,7 +96,8 @@ pub fn limits_cut_pieces_off()
 /// What `escape` makes of a text is a pattern where the text has at most 4,000,000 characters: these characters, one after
 /// the other, and no other pattern.
 pub fn escapes_spell_their_text(_text: &str)
-    ensures { (p : Pattern) → IsPattern standard (escaped_pattern (chars _text.now)) p ↔ IsLiterally p _text.now }
+    ensures { (p : Pattern)
+        → IsPattern standard (escaped_pattern (chars _text.now)) p ↔ IsLiterally p _text.now }
 {}
 
 /// The regex of what `escape` makes of a text finds the text, and nothing else: at the least place where it is within
@@ -112,13 +115,15 @@ pub fn escapes_spell_their_text(_text: &str)
 pub fn escapes_find_their_text(_text: &str, _regex: &Regex)
     ensures first { IsOfEscape _regex.now _text.now → FindsTextFirst _regex.now _text.now }
     ensures anchored { IsOfEscape _regex.now _text.now → FindsTextAtStart _regex.now _text.now }
-    ensures anchored_in_text { IsOfEscape _regex.now _text.now → FindsTextInText _regex.now _text.now }
+    ensures anchored_in_text { IsOfEscape _regex.now _text.now
+        → FindsTextInText _regex.now _text.now }
 {}
 
 /// A template without `$` expands to its own characters, whatever was matched: the one text that a replacer has for
 /// all matches is what it appends for each.
 pub fn plain_template_is_its_expansion()
-    ensures { (t : List ℕ) (seen : Seen) (x : List ℕ) → fixed_of t ≡ Some x → expansion_of t seen ≡ x }
+    ensures { (t : List ℕ) (seen : Seen) (x : List ℕ) → fixed_of t ≡ Some x
+        → expansion_of t seen ≡ x }
 {}
 
 /// A set of one pattern gives first what the pattern gives: it finds the position of the pattern's first match, or none

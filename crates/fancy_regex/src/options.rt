@@ -70,7 +70,8 @@ impl RegexOptionsBuilder {
     /// ```
     pub fn unicode_mode(&mut self, yes: bool) -> &mut Self
         ensures same { result.ghost_name ≡ self.entry.ghost_name }
-        ensures value { options_of result.now ≡ record (options_of self.old) { unicode_mode = yes } }
+        ensures value { options_of result.now
+            ≡ record (options_of self.old) { unicode_mode = yes } }
     {
         self.options.unicode_mode = yes;
         self
@@ -84,7 +85,8 @@ impl RegexOptionsBuilder {
     /// ```
     pub fn case_insensitive(&mut self, yes: bool) -> &mut Self
         ensures same { result.ghost_name ≡ self.entry.ghost_name }
-        ensures value { options_of result.now ≡ with_flags (options_of self.old) (λ f. record f { ignore_case = yes }) }
+        ensures value { options_of result.now ≡ with_flags (options_of self.old) (λ f.
+            record f { ignore_case = yes }) }
     {
         self.options.flags.ignore_case = yes;
         self
@@ -97,7 +99,8 @@ impl RegexOptionsBuilder {
     /// ```
     pub fn multi_line(&mut self, yes: bool) -> &mut Self
         ensures same { result.ghost_name ≡ self.entry.ghost_name }
-        ensures value { options_of result.now ≡ with_flags (options_of self.old) (λ f. record f { multi_line = yes }) }
+        ensures value { options_of result.now ≡ with_flags (options_of self.old) (λ f.
+            record f { multi_line = yes }) }
     {
         self.options.flags.multi_line = yes;
         self
@@ -110,7 +113,8 @@ impl RegexOptionsBuilder {
     /// ```
     pub fn dot_matches_new_line(&mut self, yes: bool) -> &mut Self
         ensures same { result.ghost_name ≡ self.entry.ghost_name }
-        ensures value { options_of result.now ≡ with_flags (options_of self.old) (λ f. record f { dot_all = yes }) }
+        ensures value { options_of result.now ≡ with_flags (options_of self.old) (λ f.
+            record f { dot_all = yes }) }
     {
         self.options.flags.dot_all = yes;
         self
@@ -146,7 +150,8 @@ impl RegexOptionsBuilder {
     /// ```
     pub fn crlf(&mut self, yes: bool) -> &mut Self
         ensures same { result.ghost_name ≡ self.entry.ghost_name }
-        ensures value { options_of result.now ≡ with_flags (options_of self.old) (λ f. record f { crlf = yes }) }
+        ensures value { options_of result.now ≡ with_flags (options_of self.old) (λ f.
+            record f { crlf = yes }) }
     {
         self.options.flags.crlf = yes;
         self
@@ -205,7 +210,8 @@ impl RegexOptionsBuilder {
     /// ```
     pub fn backtrack_limit(&mut self, limit: usize) -> &mut Self
         ensures same { result.ghost_name ≡ self.entry.ghost_name }
-        ensures value { options_of result.now ≡ record (options_of self.old) { backtrack_limit = limit } }
+        ensures value { options_of result.now
+            ≡ record (options_of self.old) { backtrack_limit = limit } }
     {
         self.options.backtrack_limit = limit;
         self
@@ -223,7 +229,8 @@ impl RegexOptionsBuilder {
     /// ```
     pub fn stack_limit(&mut self, limit: usize) -> &mut Self
         ensures same { result.ghost_name ≡ self.entry.ghost_name }
-        ensures value { options_of result.now ≡ record (options_of self.old) { stack_limit = limit } }
+        ensures value { options_of result.now
+            ≡ record (options_of self.old) { stack_limit = limit } }
     {
         self.options.stack_limit = limit;
         self
@@ -245,7 +252,8 @@ impl RegexOptionsBuilder {
     /// ```
     pub fn step_limit(&mut self, limit: usize) -> &mut Self
         ensures same { result.ghost_name ≡ self.entry.ghost_name }
-        ensures value { options_of result.now ≡ record (options_of self.old) { step_limit = Some limit } }
+        ensures value { options_of result.now
+            ≡ record (options_of self.old) { step_limit = Some limit } }
     {
         self.options.step_limit = Some(limit);
         self
@@ -264,7 +272,8 @@ impl RegexOptionsBuilder {
     /// ```
     pub fn max_prog_size(&mut self, size: usize) -> &mut Self
         ensures same { result.ghost_name ≡ self.entry.ghost_name }
-        ensures value { options_of result.now ≡ record (options_of self.old) { max_prog_size = Some size } }
+        ensures value { options_of result.now
+            ≡ record (options_of self.old) { max_prog_size = Some size } }
     {
         self.options.max_prog_size = Some(size);
         self
@@ -282,7 +291,8 @@ impl RegexOptionsBuilder {
     /// ```
     pub fn find_not_empty(&mut self, yes: bool) -> &mut Self
         ensures same { result.ghost_name ≡ self.entry.ghost_name }
-        ensures value { options_of result.now ≡ record (options_of self.old) { find_not_empty = yes } }
+        ensures value { options_of result.now
+            ≡ record (options_of self.old) { find_not_empty = yes } }
     {
         self.options.find_not_empty = yes;
         self
@@ -301,7 +311,8 @@ impl RegexOptionsBuilder {
     /// ```
     pub fn leftmost_longest(&mut self, yes: bool) -> &mut Self
         ensures same { result.ghost_name ≡ self.entry.ghost_name }
-        ensures value { options_of result.now ≡ record (options_of self.old) { leftmost_longest = yes } }
+        ensures value { options_of result.now
+            ≡ record (options_of self.old) { leftmost_longest = yes } }
     {
         self.options.leftmost_longest = yes;
         self
@@ -360,9 +371,12 @@ impl RegexOptionsBuilder {
     /// RegexOptionsBuilder::new().start_bytes(alloc, "a?")?             // None
     /// ```
     pub fn start_bytes(&self, alloc: Global, pattern: &str) -> Result<Option<ByteSet>>
-        ensures value { IfOk result (λ set. HasStartBytes (options_of self.now) (chars pattern.now) set) }
-        ensures refused { IfErr result (λ e. IsRefused e (dialect_of (options_of self.now)) (chars pattern.now)) }
-        ensures succeeds { (p : Pattern) → IsPattern (dialect_of (options_of self.now)) (chars pattern.now) p
+        ensures value { IfOk result (λ set.
+            HasStartBytes (options_of self.now) (chars pattern.now) set) }
+        ensures refused { IfErr result (λ e.
+            IsRefused e (dialect_of (options_of self.now)) (chars pattern.now)) }
+        ensures succeeds { (p : Pattern)
+            → IsPattern (dialect_of (options_of self.now)) (chars pattern.now) p
             → IfErr result (λ e. e ≡ Memory) }
     {
         byte_sets::start_bytes(alloc, pattern, self.options)
@@ -379,9 +393,12 @@ impl RegexOptionsBuilder {
     /// RegexOptionsBuilder::new().required_bytes(alloc, "(?i)é")?    // C3, which `é` and `É` begin with
     /// ```
     pub fn required_bytes(&self, alloc: Global, pattern: &str) -> Result<ByteSet>
-        ensures value { IfOk result (λ set. HasRequiredBytes (options_of self.now) (chars pattern.now) set) }
-        ensures refused { IfErr result (λ e. IsRefused e (dialect_of (options_of self.now)) (chars pattern.now)) }
-        ensures succeeds { (p : Pattern) → IsPattern (dialect_of (options_of self.now)) (chars pattern.now) p
+        ensures value { IfOk result (λ set.
+            HasRequiredBytes (options_of self.now) (chars pattern.now) set) }
+        ensures refused { IfErr result (λ e.
+            IsRefused e (dialect_of (options_of self.now)) (chars pattern.now)) }
+        ensures succeeds { (p : Pattern)
+            → IsPattern (dialect_of (options_of self.now)) (chars pattern.now) p
             → IfErr result (λ e. e ≡ Memory) }
     {
         byte_sets::required_bytes(alloc, pattern, self.options)

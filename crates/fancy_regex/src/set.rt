@@ -47,9 +47,11 @@ impl RegexSet {
     /// RegexSet::new(alloc, &["a", "(?:b"])           // Err(ParseError(4, UnclosedOpenParen))
     /// ```
     pub fn new(alloc: Global, patterns: &[&str]) -> Result<RegexSet>
-        ensures read { IfOk result (λ s. AreReadings by_default (bytes_of_each patterns.now) (members_of s)) }
+        ensures read { IfOk result (λ s.
+            AreReadings by_default (bytes_of_each patterns.now) (members_of s)) }
         ensures options { IfOk result (λ s. HaveOptions by_default (members_of s)) }
-        ensures refused { IfErr result (λ e. RefusesFirst by_default (bytes_of_each patterns.now) e) }
+        ensures refused { IfErr result (λ e.
+            RefusesFirst by_default (bytes_of_each patterns.now) e) }
     {
         RegexSet::new_with_options(alloc, patterns, &RegexOptionsBuilder::new())
     }
@@ -68,7 +70,8 @@ impl RegexSet {
         options: &RegexOptionsBuilder,
     ) -> Result<RegexSet>
         ensures read { IfOk result
-            (λ s. AreReadings (options_of options.now) (bytes_of_each patterns.now) (members_of s)) }
+            (λ s. AreReadings (options_of options.now) (bytes_of_each patterns.now) (members_of
+            s)) }
         ensures options { IfOk result (λ s. HaveOptions (options_of options.now) (members_of s)) }
         ensures refused { IfErr result
             (λ e. RefusesFirst (options_of options.now) (bytes_of_each patterns.now) e) }

@@ -39,7 +39,8 @@ pub struct Tokens<'r, S: Haystack> {
     ghost searched: { CanSearchAll S.text S.bytes set.now input },
     ghost starts: { (request_in input).range_start ≤ place },
     ghost known: { AreKnown trials.cache.known (S.bytes (haystack_in input)) },
-    ghost noted: { ended ≡ false → AreNotedFrom 0 (asked_of_set set.now S.bytes input) place trials } by { Prim.hlevel props },
+    ghost noted: { ended ≡ false
+        → AreNotedFrom 0 (asked_of_set set.now S.bytes input) place trials } by { Prim.hlevel props },
 }
 
 impl RegexSet {

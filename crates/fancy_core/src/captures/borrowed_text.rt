@@ -34,7 +34,8 @@ impl<'r, 't> Captures<'r, &'t str> {
     /// ```
     pub fn text_of(&self, name: &str) -> &'t str
         requires taken { IsSome (span_by_name self.now (chars name.now)) }
-        ensures { IsPart (searched_in self.now).now (span_by_name self.now (chars name.now)) result.now }
+        ensures { IsPart (searched_in self.now).now (span_by_name self.now (chars name.now))
+            result.now }
     {
         match self.name(name) {
             Some(found) => found.as_str(),

@@ -17,7 +17,8 @@ impl<'r, 't> Captures<'r, &'t String> {
     /// ```
     pub fn text(&self, number: usize) -> &'t str
         requires taken { IsSome (span_at (spans_in self.now) number) }
-        ensures { IsPart (string_bytes (searched_in self.now).now) (span_at (spans_in self.now) number) result.now }
+        ensures { IsPart (string_bytes (searched_in self.now).now)
+            (span_at (spans_in self.now) number) result.now }
     {
         match self.get(number) {
             Some(found) => found.as_str(),
@@ -34,7 +35,8 @@ impl<'r, 't> Captures<'r, &'t String> {
     /// ```
     pub fn text_of(&self, name: &str) -> &'t str
         requires taken { IsSome (span_by_name self.now (chars name.now)) }
-        ensures { IsPart (string_bytes (searched_in self.now).now) (span_by_name self.now (chars name.now)) result.now }
+        ensures { IsPart (string_bytes (searched_in self.now).now)
+            (span_by_name self.now (chars name.now)) result.now }
     {
         match self.name(name) {
             Some(found) => found.as_str(),

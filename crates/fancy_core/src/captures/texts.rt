@@ -42,7 +42,8 @@ impl<'r, 't, S: Input<Match = Match<'t>>> Captures<'r, S> {
     /// ```
     pub fn expand(&self, template: &str, dst: &mut String) -> Result<()>
         requires of_text { AreOfText S.span S.within }
-        ensures value { OnOk result (AddsText dst.old (expansion_of template.now (seen_in S.bytes self.now)) dst.new) }
+        ensures value { OnOk result
+            (AddsText dst.old (expansion_of template.now (seen_in S.bytes self.now)) dst.new) }
         ensures kept { OnErr result (string_bytes dst.new ≡ string_bytes dst.old) }
         ensures refused { IfErr result (λ e. e ≡ Error.Memory) }
     {

@@ -36,8 +36,10 @@ impl Regex {
     /// ```
     pub fn captures_iter<S: Input>(&self, haystack: S) -> CaptureMatches<'_, S>
         requires suits { Suits (options_in self.now) (S.text haystack) (S.bytes haystack) }
-        ensures matches { groups_left S.text S.bytes result ≡ groups_in_whole self.now S.text S.bytes haystack }
-        ensures end { end_in S.text S.bytes (matches_in result) ≡ last_start_in_whole self.now S.text S.bytes haystack }
+        ensures matches { groups_left S.text S.bytes result
+            ≡ groups_in_whole self.now S.text S.bytes haystack }
+        ensures end { end_in S.text S.bytes (matches_in result)
+            ≡ last_start_in_whole self.now S.text S.bytes haystack }
         ensures countable { items_bound S.text S.bytes (matches_in result) < 2 ^ 64 }
         ensures regex { regex_in (matches_in result) ≡ self.now }
         ensures text { haystack_of (matches_in result) ≡ haystack }
@@ -56,8 +58,10 @@ impl Regex {
     /// ```
     pub fn captures_iter_input<S: Input>(&self, input: RegexInput<S>) -> CaptureMatches<'_, S>
         requires searched { CanSearchInput S.text S.bytes (options_in self.now) input }
-        ensures matches { groups_left S.text S.bytes result ≡ groups_of_input self.now S.text S.bytes input }
-        ensures end { end_in S.text S.bytes (matches_in result) ≡ last_start_of_input self.now S.text S.bytes input }
+        ensures matches { groups_left S.text S.bytes result
+            ≡ groups_of_input self.now S.text S.bytes input }
+        ensures end { end_in S.text S.bytes (matches_in result)
+            ≡ last_start_of_input self.now S.text S.bytes input }
         ensures countable { items_bound S.text S.bytes (matches_in result) < 2 ^ 64 }
         ensures regex { regex_in (matches_in result) ≡ self.now }
         ensures text { haystack_of (matches_in result) ≡ haystack_in input }

@@ -106,7 +106,8 @@ impl<'a, 'b> Replacer for &'b CowStr<'a, Global> {
 
 /// Appends what a template expands to.
 fn append_expanded(template: &str, captures: &Captures<'_, &str>, dst: &mut String) -> Result<()>
-    ensures ok { OnOk result (AddsSome dst.old dst.new (Expands template.now (seen_in bytes_of_str captures.now))) }
+    ensures ok { OnOk result
+        (AddsSome dst.old dst.new (Expands template.now (seen_in bytes_of_str captures.now))) }
     ensures kept { OnErr result (string_bytes dst.new ≡ string_bytes dst.old) }
     ensures refused { IfErr result (λ e. e ≡ Error.Memory) }
 {

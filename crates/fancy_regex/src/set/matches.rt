@@ -50,8 +50,10 @@ pub struct RegexSetMatchesAt<'r, S: Haystack> {
     ghost starts: { effective_start (request_in input) ≤ position },
     ghost ends: { position ≤ (request_in input).range_end },
     ghost known: { AreKnown trials.cache.known (S.bytes (haystack_in input)) },
-    ghost noted: { AreNotedFrom (next_asked found next) (asked_of_set set.now S.bytes input) position trials } by { Prim.hlevel props },
-    ghost kept: { ForSome found (λ c. IsItemOf (asked_of_set set.now S.bytes input) (haystack_in input) position next c) },
+    ghost noted: { AreNotedFrom (next_asked found next) (asked_of_set set.now S.bytes input)
+        position trials } by { Prim.hlevel props },
+    ghost kept: { ForSome found (λ c.
+        IsItemOf (asked_of_set set.now S.bytes input) (haystack_in input) position next c) },
 }
 
 impl RegexSet {
@@ -76,11 +78,14 @@ impl RegexSet {
         input: RegexInput<S>,
     ) -> Result<Option<RegexSetMatchesAt<'_, S>>>
         requires searched { CanSearchAll S.text S.bytes self.now input }
-        ensures none { IfOk result (λ m. (m ≡ None) ↔ (set_position (asked_of_set self.now S.bytes input) ≡ None)) }
+        ensures none { IfOk result (λ m.
+            (m ≡ None) ↔ (set_position (asked_of_set self.now S.bytes input) ≡ None)) }
         ensures found { IfOk result
-            (λ m. IfSome m (IsAnswerOfSet S.bytes self.now (haystack_in input) (request_in input))) }
+            (λ m. IfSome m (IsAnswerOfSet S.bytes self.now (haystack_in input) (request_in
+            input))) }
         ensures refused { IfErr result (RefusesSet (asked_of_set self.now S.bytes input)) }
-        ensures unlimited { AreAllEasy (members_of self.now) → AllowAllSteps (members_of self.now) (request_in input)
+        ensures unlimited { AreAllEasy (members_of self.now)
+            → AllowAllSteps (members_of self.now) (request_in input)
             → IsOutOfSteps result → ⊥ }
     {
         let mut work = Work::new();
@@ -106,16 +111,20 @@ impl RegexSet {
         work: &mut Work,
     ) -> Result<Option<RegexSetMatchesAt<'_, S>>>
         requires searched { CanSearchAll S.text S.bytes self.now input }
-        ensures none { IfOk result (λ m. (m ≡ None) ↔ (set_position (asked_of_set self.now S.bytes input) ≡ None)) }
+        ensures none { IfOk result (λ m.
+            (m ≡ None) ↔ (set_position (asked_of_set self.now S.bytes input) ≡ None)) }
         ensures found { IfOk result
-            (λ m. IfSome m (IsAnswerOfSet S.bytes self.now (haystack_in input) (request_in input))) }
+            (λ m. IfSome m (IsAnswerOfSet S.bytes self.now (haystack_in input) (request_in
+            input))) }
         ensures refused { IfErr result (RefusesSet (asked_of_set self.now S.bytes input)) }
         ensures steps { AreAllEasy (members_of self.now)
             → steps_of work.new ≤ most_steps_of_all (members_of self.now) (request_in input) }
         ensures returns { returns_of work.new ≤ steps_of work.new }
-        ensures limit { (most : ℕ) → ShareLimit most (members_of self.now) → work_of work.new ≤ most }
+        ensures limit { (most : ℕ) → ShareLimit most (members_of self.now)
+            → work_of work.new ≤ most }
         ensures spent { IsOutOfSteps result → IsSpentForOne (members_of self.now) work.new }
-        ensures unlimited { AreAllEasy (members_of self.now) → AllowAllSteps (members_of self.now) (request_in input)
+        ensures unlimited { AreAllEasy (members_of self.now)
+            → AllowAllSteps (members_of self.now) (request_in input)
             → IsOutOfSteps result → ⊥ }
     {
         work.reset();

@@ -42,15 +42,18 @@ impl RegexSet {
         requires known { AreKnown trials.old.cache.known (S.bytes (haystack_in input.now)) }
         requires fresh { trials.old.notes.items ≡ [] }
         ensures known { AreKnown trials.new.cache.known (S.bytes (haystack_in input.now)) }
-        ensures noted { IfSome result (λ a. AreNotedFrom (a.1.index + 1) (asked_of_set self.now S.bytes input.now) a.0 trials.new) }
+        ensures noted { IfSome result (λ a.
+            AreNotedFrom (a.1.index + 1) (asked_of_set self.now S.bytes input.now) a.0 trials.new) }
         ensures bounded { AreAllEasy (members_of self.now) → steps_in trials.new
             ≤ steps_in trials.old + most_steps_of_all (members_of self.now) (request_in input.now) }
         ensures paired { IsPaired trials.old → IsPaired trials.new }
         ensures limit { HeedLimits (members_of self.now) trials.old trials.new }
         ensures grows { KeepsWork trials.old trials.new }
-        ensures limited { IfSome result (λ a. IsOutOfSteps a.1.answer → IsSpentForOne (members_of self.now) trials.new.cache.work) }
+        ensures limited { IfSome result (λ a. IsOutOfSteps a.1.answer
+            → IsSpentForOne (members_of self.now) trials.new.cache.work) }
         ensures units { CountNoUnits (members_of self.now) trials.old trials.new }
-        ensures none { IfNone result (set_position (asked_of_set self.now S.bytes input.now) ≡ None) }
+        ensures none { IfNone result (set_position (asked_of_set self.now S.bytes input.now)
+            ≡ None) }
         ensures first { IfSome result (λ a. IsFirstOfSet (asked_of_set self.now S.bytes input.now)
             (haystack_in input.now) a.0 a.1.index a.1.answer) }
     {
@@ -84,15 +87,21 @@ impl RegexSet {
         requires starts { effective_start (request_in input.now) ≤ position }
         requires ends { position ≤ (request_in input.now).range_end }
         requires known { AreKnown trials.old.cache.known (S.bytes (haystack_in input.now)) }
-        requires noted { AreNotedFrom from (asked_of_set self.now S.bytes input.now) position trials.old }
+        requires noted { AreNotedFrom from (asked_of_set self.now S.bytes input.now) position
+            trials.old }
         ensures known { AreKnown trials.new.cache.known (S.bytes (haystack_in input.now)) }
-        ensures noted { IfNone result (AreNotedFrom from (asked_of_set self.now S.bytes input.now) position trials.new) }
-        ensures left { IfSome result (λ a. AreNotedFrom (a.index + 1) (asked_of_set self.now S.bytes input.now) position trials.new) }
+        ensures noted { IfNone result
+            (AreNotedFrom from (asked_of_set self.now S.bytes input.now) position trials.new) }
+        ensures left { IfSome result (λ a.
+            AreNotedFrom (a.index + 1) (asked_of_set self.now S.bytes input.now) position
+            trials.new) }
         ensures limit { HeedLimits (members_of self.now) trials.old trials.new }
         ensures grows { KeepsWork trials.old trials.new }
-        ensures limited { IfSome result (λ a. IsOutOfSteps a.answer → IsSpentForOne (members_of self.now) trials.new.cache.work) }
+        ensures limited { IfSome result (λ a. IsOutOfSteps a.answer
+            → IsSpentForOne (members_of self.now) trials.new.cache.work) }
         ensures none { IfNone result
-            (NoneBetween (asked_of_set self.now S.bytes input.now) position from (length (members_of self.now))) }
+            (NoneBetween (asked_of_set self.now S.bytes input.now) position from
+            (length (members_of self.now))) }
         ensures first { IfSome result (λ a. IsFirstAnswer (asked_of_set self.now S.bytes input.now)
             (haystack_in input.now) position from a.index a.answer) }
     {
@@ -113,27 +122,35 @@ impl RegexSet {
         position: usize,
         trials: &mut Trials,
     ) -> Option<MemberAnswer<'_, S>>
-        requires byte { next ≡ slice_get (take (request_in input.now).range_end (S.bytes (haystack_in input.now))) position }
+        requires byte { next ≡ slice_get
+            (take (request_in input.now).range_end (S.bytes (haystack_in input.now))) position }
         requires searched { CanSearchAll S.text S.bytes self.now input.now }
         requires starts { effective_start (request_in input.now) ≤ position }
         requires ends { position ≤ (request_in input.now).range_end }
         requires known { AreKnown trials.old.cache.known (S.bytes (haystack_in input.now)) }
-        requires noted { AreNotedFrom from (asked_of_set self.now S.bytes input.now) position trials.old }
+        requires noted { AreNotedFrom from (asked_of_set self.now S.bytes input.now) position
+            trials.old }
         ensures known { AreKnown trials.new.cache.known (S.bytes (haystack_in input.now)) }
-        ensures noted { IfNone result (AreNotedFrom from (asked_of_set self.now S.bytes input.now) position trials.new) }
-        ensures left { IfSome result (λ a. AreNotedFrom (a.index + 1) (asked_of_set self.now S.bytes input.now) position trials.new) }
+        ensures noted { IfNone result
+            (AreNotedFrom from (asked_of_set self.now S.bytes input.now) position trials.new) }
+        ensures left { IfSome result (λ a.
+            AreNotedFrom (a.index + 1) (asked_of_set self.now S.bytes input.now) position
+            trials.new) }
         ensures bounded { TakesSteps (asked_of_set self.now S.bytes input.now) trials.old trials.new
             (steps_left_in (asked_of_set self.now S.bytes input.now) from position trials.old) 0 }
-        ensures spent { IfNone result (TakesSteps (asked_of_set self.now S.bytes input.now) trials.old trials.new
+        ensures spent { IfNone result
+            (TakesSteps (asked_of_set self.now S.bytes input.now) trials.old trials.new
             (steps_left_in (asked_of_set self.now S.bytes input.now) from position trials.old)
             (steps_left_in (asked_of_set self.now S.bytes input.now) 0 (position + 1) trials.new)) }
         ensures paired { IsPaired trials.old → IsPaired trials.new }
         ensures limit { HeedLimits (members_of self.now) trials.old trials.new }
         ensures grows { KeepsWork trials.old trials.new }
-        ensures limited { IfSome result (λ a. IsOutOfSteps a.answer → IsSpentForOne (members_of self.now) trials.new.cache.work) }
+        ensures limited { IfSome result (λ a. IsOutOfSteps a.answer
+            → IsSpentForOne (members_of self.now) trials.new.cache.work) }
         ensures units { CountNoUnits (members_of self.now) trials.old trials.new }
         ensures none { IfNone result
-            (NoneBetween (asked_of_set self.now S.bytes input.now) position from (length (members_of self.now))) }
+            (NoneBetween (asked_of_set self.now S.bytes input.now) position from
+            (length (members_of self.now))) }
         ensures first { IfSome result (λ a. IsFirstAnswer (asked_of_set self.now S.bytes input.now)
             (haystack_in input.now) position from a.index a.answer) }
     {
@@ -180,20 +197,26 @@ impl RegexSet {
         requires starts { effective_start (request_in input.now) ≤ position }
         requires ends { position ≤ (request_in input.now).range_end }
         requires known { AreKnown trials.old.cache.known (S.bytes (haystack_in input.now)) }
-        requires noted { AreNotedFrom index (asked_of_set self.now S.bytes input.now) position trials.old }
+        requires noted { AreNotedFrom index (asked_of_set self.now S.bytes input.now) position
+            trials.old }
         ensures known { AreKnown trials.new.cache.known (S.bytes (haystack_in input.now)) }
-        ensures noted { IfNone result ((from : ℕ) → AreNotedFrom from (asked_of_set self.now S.bytes input.now) position trials.old
+        ensures noted { IfNone result ((from : ℕ)
+            → AreNotedFrom from (asked_of_set self.now S.bytes input.now) position trials.old
             → AreNotedFrom from (asked_of_set self.now S.bytes input.now) position trials.new) }
-        ensures left { AreNotedFrom (index + 1) (asked_of_set self.now S.bytes input.now) position trials.new }
+        ensures left { AreNotedFrom (index + 1) (asked_of_set self.now S.bytes input.now) position
+            trials.new }
         ensures bounded { TakesSteps (asked_of_set self.now S.bytes input.now) trials.old trials.new
             (steps_left_in (asked_of_set self.now S.bytes input.now) index position trials.old) 0 }
-        ensures spent { IfNone result (TakesSteps (asked_of_set self.now S.bytes input.now) trials.old trials.new
+        ensures spent { IfNone result
+            (TakesSteps (asked_of_set self.now S.bytes input.now) trials.old trials.new
             (steps_left_in (asked_of_set self.now S.bytes input.now) index position trials.old)
-            (steps_left_in (asked_of_set self.now S.bytes input.now) (index + 1) position trials.new)) }
+            (steps_left_in (asked_of_set self.now S.bytes input.now) (index + 1) position
+            trials.new)) }
         ensures paired { IsPaired trials.old → IsPaired trials.new }
         ensures limit { HeedLimits (members_of self.now) trials.old trials.new }
         ensures grows { KeepsWork trials.old trials.new }
-        ensures limited { IfSome result (λ a. IsOutOfSteps a → IsSpentForOne (members_of self.now) trials.new.cache.work) }
+        ensures limited { IfSome result (λ a. IsOutOfSteps a
+            → IsSpentForOne (members_of self.now) trials.new.cache.work) }
         ensures units { CountNoUnits (members_of self.now) trials.old trials.new }
         ensures none { IfNone result
             (has_answer_at (asked_of_set self.now S.bytes input.now) position index ≡ false) }

@@ -10,7 +10,8 @@ use crate::set::matched::RegexSetMatch;
 impl<'r, 't> RegexSetMatch<'r, &'t String> {
     /// The text of the match.
     pub fn as_str(&self) -> &'t str
-        ensures { IsPart (string_bytes (searched_in (captures_of self.now)).now) (match_span self.now) result.now }
+        ensures { IsPart (string_bytes (searched_in (captures_of self.now)).now)
+            (match_span self.now) result.now }
     {
         self.captures().text(0)
     }

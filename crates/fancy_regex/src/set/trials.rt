@@ -87,27 +87,37 @@ impl Trials {
         requires starts { effective_start (request_in input) ≤ position }
         requires ends { position ≤ (request_in input).range_end }
         requires known { AreKnown self.old.cache.known (S.bytes (haystack_in input)) }
-        requires notes { NotedAt index member.now (S.bytes (haystack_in input)) (request_in input) position self.old }
+        requires notes { NotedAt index member.now (S.bytes (haystack_in input)) (request_in input)
+            position self.old }
         ensures known { AreKnown self.new.cache.known (S.bytes (haystack_in input)) }
         ensures notes { IfOk result (λ m. IfNone m
-            (NotedAt index member.now (S.bytes (haystack_in input)) (request_in input) position self.new)) }
+            (NotedAt index member.now (S.bytes (haystack_in input)) (request_in input) position
+            self.new)) }
         ensures others { OthersStayBut index self.old self.new }
         ensures bounded { easy_in member.now ≡ true → steps_in self.new
-            ≤ steps_in self.old + steps_left member.now (request_in input) position (notes_at self.old index) }
+            ≤ steps_in self.old
+            + steps_left member.now (request_in input) position (notes_at self.old index) }
         ensures spent { easy_in member.now ≡ true → IfOk result (λ m. IfNone m
-            (steps_in self.new + steps_left member.now (request_in input) (position + 1) (notes_at self.new index)
-            ≤ steps_in self.old + steps_left member.now (request_in input) position (notes_at self.old index))) }
+            (steps_in self.new
+            + steps_left member.now (request_in input) (position + 1) (notes_at self.new index)
+            ≤ steps_in self.old
+            + steps_left member.now (request_in input) position (notes_at self.old index))) }
         ensures paired { IsPaired self.old → IsPaired self.new }
         ensures limit { IsWithin (step_limit_in member.now) self.old.cache.work
             → IsWithin (step_limit_in member.now) self.new.cache.work }
-        ensures limited { IsOutOfSteps result → IsSpent (step_limit_in member.now) self.new.cache.work }
+        ensures limited { IsOutOfSteps result
+            → IsSpent (step_limit_in member.now) self.new.cache.work }
         ensures grows { KeepsWork self.old self.new }
-        ensures units { easy_in member.now ≡ true → units_of self.new.cache.work ≡ units_of self.old.cache.work }
-        ensures found { IfOk result (λ m. spans_if m ≡ groups_of_attempt (asked_by member.now S.bytes input) position) }
+        ensures units { easy_in member.now ≡ true
+            → units_of self.new.cache.work ≡ units_of self.old.cache.work }
+        ensures found { IfOk result (λ m.
+            spans_if m ≡ groups_of_attempt (asked_by member.now S.bytes input) position) }
         ensures within { IfOk result (λ m. IfSome m (λ c. searched_in c ≡ haystack_in input)) }
         ensures regex { IfOk result (λ m. IfSome m (λ c. found_by c ≡ member.now)) }
-        ensures refused { IfErr result (λ e. RefusesAt member.now (asked_by member.now S.bytes input) position e) }
-        ensures allowed { IfOk result (λ _. AllowsAt member.now (asked_by member.now S.bytes input) position) }
+        ensures refused { IfErr result (λ e.
+            RefusesAt member.now (asked_by member.now S.bytes input) position e) }
+        ensures allowed { IfOk result (λ _.
+            AllowsAt member.now (asked_by member.now S.bytes input) position) }
     {
         self.reach(index)?;
         let notes = &mut self.notes[index];
@@ -134,12 +144,16 @@ impl Trials {
         ensures others { OthersStayBut index self.old self.new }
         ensures limit { IsWithin (step_limit_in member.now) self.old.cache.work
             → IsWithin (step_limit_in member.now) self.new.cache.work }
-        ensures limited { IsOutOfSteps result → IsSpent (step_limit_in member.now) self.new.cache.work }
+        ensures limited { IsOutOfSteps result
+            → IsSpent (step_limit_in member.now) self.new.cache.work }
         ensures grows { KeepsWork self.old self.new }
         ensures found { IfOk result
-            (λ m. IsAttemptIn m self.new.cache.engines (query member.now haystack.now request) position) }
-        ensures refused { IfErr result (λ e. RefusesAt member.now (query member.now haystack.now request) position e) }
-        ensures allowed { IfOk result (λ _. AllowsAt member.now (query member.now haystack.now request) position) }
+            (λ m. IsAttemptIn m self.new.cache.engines (query member.now haystack.now request)
+            position) }
+        ensures refused { IfErr result (λ e.
+            RefusesAt member.now (query member.now haystack.now request) position e) }
+        ensures allowed { IfOk result (λ _.
+            AllowsAt member.now (query member.now haystack.now request) position) }
     {
         self.reach(index)?;
         let notes = &mut self.notes[index];

@@ -9,7 +9,8 @@ use crate::tokens::token::Token;
 impl<'r, 't> Token<'r, &'t str> {
     /// The text of the token.
     pub fn as_str(&self) -> &'t str
-        ensures { IsPart (searched_in (token_captures self.now)).now (token_span self.now) result.now }
+        ensures { IsPart (searched_in (token_captures self.now)).now (token_span self.now)
+            result.now }
     {
         self.found.as_str()
     }

@@ -38,15 +38,19 @@ impl RegexSet {
         requires known { AreKnown trials.old.cache.known (S.bytes (haystack_in input.now)) }
         requires noted { AreNotedFrom 0 (asked_of_set self.now S.bytes input.now) place trials.old }
         ensures known { AreKnown trials.new.cache.known (S.bytes (haystack_in input.now)) }
-        ensures limit { (most : ℕ) → ShareLimit most (members_of self.now) → work_of trials.new.cache.work ≤ most }
-        ensures limited { IsOutOfSteps result → IsSpentForOne (members_of self.now) trials.new.cache.work }
+        ensures limit { (most : ℕ) → ShareLimit most (members_of self.now)
+            → work_of trials.new.cache.work ≤ most }
+        ensures limited { IsOutOfSteps result
+            → IsSpentForOne (members_of self.now) trials.new.cache.work }
         ensures noted { IfOk result (λ t. IfSome (token_span t)
             (λ s. AreNotedFrom 0 (asked_of_set self.now S.bytes input.now) s.end trials.new)) }
         ensures given { IfOk result
             (IsTokenGiven (asked_of_set self.now S.bytes input.now) (haystack_in input.now) place) }
         ensures limits { IfOk result
-            (λ _. KeepLimits (asked_of_set self.now S.bytes input.now) place (length (members_of self.now))) }
-        ensures refused { IfErr result (λ e. IsUnmatched (asked_of_set self.now S.bytes input.now) place e
+            (λ _. KeepLimits (asked_of_set self.now S.bytes input.now) place
+            (length (members_of self.now))) }
+        ensures refused { IfErr result (λ e.
+            IsUnmatched (asked_of_set self.now S.bytes input.now) place e
             ⊎ IsRefusedByMember (asked_of_set self.now S.bytes input.now) place e) }
     {
         trials.cache.work.reset();
