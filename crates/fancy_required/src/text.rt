@@ -6,7 +6,7 @@ ghost use Rattle.fancy_required.specs.Required.{gap, told_bytes, told_in_row, re
 
 use fancy_bytes::opening::opening_text;
 use fancy_tree::tree::{Meaning, Tree};
-use memchr::memmem::{Finder, FinderBuilder};
+use memchr::memmem;
 use std::alloc::{AllocError, Global};
 use std::marker::Model;
 use std::mem::swap;
@@ -131,16 +131,16 @@ impl Runs {
     }
 }
 
-/// A text that every match has in it, made ready to be looked for.
+/// A text that every match has in it.
 #[derive(Drop)]
 pub struct RequiredText {
-    finder: Finder<'static>,
+    text: Vec<u8>,
 }
 
 impl Model for RequiredText {
     ghost Value = { List ℕ };
 
-    ghost view = { λ t. t.finder };
+    ghost view = { λ t. t.text.items };
 }
 
 impl RequiredText {
@@ -160,8 +160,7 @@ impl RequiredText {
         if text.len() < 2 || text.len() <= opening.len() {
             return Ok(None);
         }
-        let finder = FinderBuilder::new().build_forward_owned(text);
-        Ok(Some(RequiredText { finder }))
+        Ok(Some(RequiredText { text }))
     }
 
     /// Whether the text stands nowhere from one place on and before the other.
@@ -170,6 +169,6 @@ impl RequiredText {
         requires within { end ≤ length haystack.now }
         ensures { result ≡ true → ¬ StandsFrom haystack.now from end self.now }
     {
-        self.finder.find(&haystack[from..end]).is_none()
+        memmem::find(&haystack[from..end], &self.text).is_none()
     }
 }

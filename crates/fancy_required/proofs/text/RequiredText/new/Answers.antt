@@ -6,6 +6,5 @@ use Rattle.fancy_required.proofs.text.RequiredText.new.Goals as goal
 
 pub returns : goal.returns
 returns c =
-    c.build_forward_owned-finder.ensures
-    ∙ c.into_longest-text.ensures
+    c.into_longest-text.ensures
     ∙ gathered (told_bytes c.args.meaning (pattern_of c.args.tree.now)) c.new-runs.result c.add.new.self c.new-runs.ensures.text c.new-runs.ensures.longest c.in_ok-add.ensures
