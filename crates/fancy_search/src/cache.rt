@@ -146,6 +146,7 @@ impl AttemptCache {
 }
 
 /// What searches work in, reused from one to the next, with the groups of the last match.
+#[derive(Drop)]
 pub struct Cache {
     pub(crate) runner: runner::Cache,
     pub(crate) machine: machine::Cache,
@@ -154,19 +155,6 @@ pub struct Cache {
     read_past: usize,
     /// Which engine worked in it last.
     pub(crate) served: Engine,
-}
-
-/// By hand, so that crates above do not prove it once more.
-impl Drop for Cache {
-    fn drop(self) {
-        let Cache {
-            runner: _,
-            machine: _,
-            cells: _,
-            read_past: _,
-            served: _,
-        } = self;
-    }
 }
 
 impl Cache {
