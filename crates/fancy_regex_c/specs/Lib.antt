@@ -10,4 +10,8 @@ pub mod Reading
 pub mod Faults
 pub mod Missing
 pub mod Texts
+pub mod Replacements
+pub mod Splitting
+pub mod UnderWay
+pub mod SetReading
 pub mod Handles

@@ -1,6 +1,7 @@
 //! Buffers that the caller gives.
 
-ghost use Rattle.fancy_regex_c.specs.Buffers.{Puts};
+ghost use Rattle.std.specs.Prelude.{◌≡◌, ◌+◌, ◌<◌, ◌^◌};
+ghost use Rattle.fancy_regex_c.specs.Buffers.{Puts, PutsNext};
 
 use crate::answers::{DONE, TOO_SHORT};
 
@@ -14,4 +15,16 @@ pub fn put(bytes: &[u8], buffer: &mut [u8], wanted: &mut usize) -> u32
     }
     buffer[..bytes.len()].copy_from_slice(bytes);
     DONE
+}
+
+/// Puts an item behind those before it, if there is room for it, and counts it.
+pub fn put_next<T: Copy>(item: T, buffer: &mut [T], count: &mut usize)
+    requires { count.old + 1 < 2 ^ 64 }
+    ensures counted { count.new ≡ count.old + 1 }
+    ensures put { PutsNext item buffer.old buffer.new count.old }
+{
+    if *count < buffer.len() {
+        buffer[*count] = item;
+    }
+    *count += 1;
 }

@@ -5,6 +5,7 @@
 
 ghost use Rattle.std.specs.Prelude.{◌≡◌};
 ghost use Rattle.fancy_regex_c.specs.Faults.{parse_number, compile_number, fault_of_kind, fault_of, answer_of_kind};
+ghost use Rattle.fancy_regex_c.specs.Texts.{TellsText};
 
 use crate::answers::{NO_MEMORY, NO_OPTIONS, NOT_TEXT, REFUSED};
 use crate::buffers::put;
@@ -182,19 +183,23 @@ fn text_of(alloc: Global, error: &Error) -> Result<String, AllocError> {
 
 /// Writes the text of a fault into a buffer, without a zero byte after it, and tells its length.
 ///
-/// `TOO_SHORT` where the buffer has no room for it, with the length that is wanted. For `NO_MEMORY` nothing is written.
+/// `TOO_SHORT` where the buffer has no room for it, with the length that is wanted. For `NO_MEMORY` nothing is written, and the length
+/// is 0.
 #[unsafe(no_mangle)]
 pub extern "C" fn fancy_regex_explain(
     alloc: Global,
     fault: &Fault,
     buffer: &mut [u8],
     wanted: &mut usize,
-) -> u32 {
+) -> u32
+    ensures { TellsText buffer.old buffer.new wanted.new result }
+{
+    *wanted = 0;
     let Some(error) = error_of(fault) else {
         return put(other_text(fault.kind).as_bytes(), buffer, wanted);
     };
     match text_of(alloc, &error) {
-        Ok(text) => put(text.as_bytes(), buffer, wanted),
+        Ok(text) => put(text.as_str().as_bytes(), buffer, wanted),
         Err(_) => NO_MEMORY,
     }
 }

@@ -5,11 +5,12 @@
 //! A list of the library does all that by itself, so a call has one for its matches. Where `\G` does not hold at the start, the
 //! call begins with a list for which it holds nowhere, up to the first match after which it holds again.
 
-ghost use Rattle.std.specs.Prelude.{◌≡◌, IfOk};
+ghost use Rattle.std.specs.Prelude.{◌≡◌, ⊤, IfOk};
 ghost use Rattle.fancy_regex.specs.Inputs.{haystack_in, request_in};
 ghost use Rattle.fancy_regex.specs.Regexes.{options_in};
 ghost use Rattle.fancy_regex.specs.Searching.{CanSearch};
 ghost use Rattle.fancy_regex_c.specs.Handed.{handed_bytes, is_handed_text};
+ghost use Rattle.fancy_regex_c.specs.Handles.{IsSame, HeldRegex};
 
 use crate::answers::{DONE, NO_HANDLE, NONE, answer_of};
 use crate::handed::Handed;
@@ -253,7 +254,10 @@ pub extern "C" fn fancy_regex_find_all(
     request: &mut Request,
     spans: &mut [Span],
     written: &mut usize,
-) -> u32 {
+) -> u32
+    ensures kept { IsSame regex.new regex.old }
+    ensures answer { HeldRegex regex.old (λ _. ⊤) (result ≡ 5) }
+{
     let Some(kept) = regex.take(alloc) else {
         return NO_HANDLE;
     };
@@ -368,7 +372,10 @@ pub extern "C" fn fancy_regex_captures_all(
     request: &mut Request,
     groups: &mut [Span],
     written: &mut usize,
-) -> u32 {
+) -> u32
+    ensures kept { IsSame regex.new regex.old }
+    ensures answer { HeldRegex regex.old (λ _. ⊤) (result ≡ 5) }
+{
     let Some(kept) = regex.take(alloc) else {
         return NO_HANDLE;
     };

@@ -1,8 +1,9 @@
 //! A set behind a handle: its first matches, and the tokens of a text.
 
-ghost use Rattle.std.specs.Prelude.{◌≡◌, length};
+ghost use Rattle.std.specs.Prelude.{◌≡◌, ⊤, IfOk, IfErr, length};
 ghost use Rattle.fancy_regex.specs.Sets.{members_of};
 ghost use Rattle.fancy_regex_c.specs.Handles.{IsSame, HeldSet};
+ghost use Rattle.fancy_regex_c.specs.SetReading.{part, AreRead, IsSetFault, IsSetToldBy};
 
 use crate::answers::{DONE, NO_HANDLE, NO_MEMORY, NONE, TOO_SHORT, answer_of};
 use crate::handed::Handed;
@@ -15,7 +16,9 @@ use std::alloc::Global;
 use std::sync::Arc;
 
 /// The part of the bytes from `start` to `end`, which is empty where there is none.
-fn part(bytes: &[u8], start: usize, end: usize) -> &[u8] {
+fn part(bytes: &[u8], start: usize, end: usize) -> &[u8]
+    ensures { result.now ≡ part bytes.now start end }
+{
     if start <= end && end <= bytes.len() {
         &bytes[start..end]
     } else {
@@ -29,7 +32,11 @@ fn read_all(
     patterns: &[u8],
     ends: &[usize],
     options: &Options,
-) -> std::result::Result<RegexSet, Fault> {
+) -> std::result::Result<RegexSet, Fault>
+    ensures read { IfOk result
+        (λ s. AreRead options.now patterns.now ends.now (length ends.now) (members_of s)) }
+    ensures refused { IfErr result (λ fault. IsSetFault options.now patterns.now ends.now fault) }
+{
     let mut members: Vec<Regex> = Vec::new(alloc);
     let mut start = 0;
     for index in 0..ends.len() {
@@ -38,15 +45,29 @@ fn read_all(
             Ok(member) => member,
             Err(fault) => return Err(fault.in_set(index)),
         };
-        if members.push(member).is_err() {
+        let Ok(()) = members.push(member) else {
             return Err(Fault::memory());
-        }
+        };
         start = end;
     }
     Ok(RegexSet::from_regexes(members))
 }
 
-/// Reads the patterns of a set, and puts the set into the handle. What the handle held is freed, unless a pattern is refused.
+fn keep_set(alloc: Global, set: RegexSet, out: &mut Handle) -> u32
+    ensures made { result ≡ 0 → HeldSet out.new (λ s. s ≡ set) ⊥ }
+    ensures same { (result ≡ 0 → ⊥) → IsSame out.new out.old }
+    ensures answer { (result ≡ 0 → ⊥) → result ≡ 4 }
+{
+    match Arc::new(alloc, set) {
+        Ok(set) => keep(alloc, Kept::Set(set), out),
+        Err(_) => NO_MEMORY,
+    }
+}
+
+/// Reads the patterns of a set, and puts the set into the handle. What the handle held is freed.
+///
+/// Where a pattern is refused the handle keeps what it held, and the fault says which and why, as that of
+/// [`crate::regexes::fancy_regex_new`]. For `DONE` the fault is not written.
 #[unsafe(no_mangle)]
 pub extern "C" fn fancy_regex_set_new(
     alloc: Global,
@@ -55,7 +76,13 @@ pub extern "C" fn fancy_regex_set_new(
     options: &Options,
     out: &mut Handle,
     fault: &mut Fault,
-) -> u32 {
+) -> u32
+    ensures made { result ≡ 0 → HeldSet out.new
+        (λ s. AreRead options.now patterns.now ends.now (length ends.now) (members_of s)) ⊥ }
+    ensures same { (result ≡ 0 → ⊥) → IsSame out.new out.old }
+    ensures refused { (result ≡ 0 → ⊥) → IsSetToldBy options.now patterns.now ends.now fault.new result }
+    ensures untouched { result ≡ 0 → fault.new ≡ fault.old }
+{
     let set = match read_all(alloc, patterns, ends, options) {
         Ok(set) => set,
         Err(why) => {
@@ -64,10 +91,11 @@ pub extern "C" fn fancy_regex_set_new(
             return answer;
         }
     };
-    match Arc::new(alloc, set) {
-        Ok(set) => keep(alloc, Kept::Set(set), out),
-        Err(_) => NO_MEMORY,
+    let answer = keep_set(alloc, set, out);
+    if answer != DONE {
+        *fault = Fault::memory();
     }
+    answer
 }
 
 /// How many patterns the set has; 0 where the handle holds no set.
@@ -144,7 +172,10 @@ pub extern "C" fn fancy_regex_set_find(
     request: &Request,
     members: &mut [Member],
     wanted: &mut usize,
-) -> u32 {
+) -> u32
+    ensures kept { IsSame set.new set.old }
+    ensures answer { HeldSet set.old (λ _. ⊤) (result ≡ 5) }
+{
     let Some(kept) = set.take(alloc) else {
         return NO_HANDLE;
     };
@@ -199,7 +230,10 @@ pub extern "C" fn fancy_regex_tokens(
     request: &mut Request,
     tokens: &mut [Member],
     written: &mut usize,
-) -> u32 {
+) -> u32
+    ensures kept { IsSame set.new set.old }
+    ensures answer { HeldSet set.old (λ _. ⊤) (result ≡ 5) }
+{
     let Some(kept) = set.take(alloc) else {
         return NO_HANDLE;
     };

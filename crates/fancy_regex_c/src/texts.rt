@@ -1,9 +1,19 @@
 //! New texts: with matches replaced, cut into pieces, and as a pattern. They go into buffers that the caller gives.
 
+ghost use Rattle.std.specs.Prelude.{◌≡◌, ◌↔◌, [], true, length, IfOk, IfErr};
+ghost use Rattle.std.specs.Cow.{cow_str_bytes, IsBorrowedStr};
+ghost use Rattle.fancy_regex.specs.Regexes.{options_in};
+ghost use Rattle.fancy_regex.specs.Replacing.{all_matches, AllowsReplacing, IsRefusedAfterSome};
+ghost use Rattle.fancy_regex.specs.Requests.{whole};
+ghost use Rattle.fancy_regex.specs.Searching.{Suits};
+ghost use Rattle.fancy_regex_c.specs.Buffers.{filled};
+ghost use Rattle.fancy_regex_c.specs.Handles.{IsSame, ByRegex, HeldRegex};
+ghost use Rattle.fancy_regex_c.specs.Replacements.{text_with, TellsReplaced};
+ghost use Rattle.fancy_regex_c.specs.Splitting.{pieces_of, RefusesOneOf, TellsPieces};
 ghost use Rattle.fancy_regex_c.specs.Texts.{TellsEscaped};
 
 use crate::answers::{DONE, NO_HANDLE, NO_MEMORY, NO_PLACE, NONE, NOT_TEXT, TOO_SHORT, answer_of};
-use crate::buffers::put;
+use crate::buffers::{put, put_next};
 use crate::handle::{Handle, Kept};
 use crate::plain::Span;
 use fancy_regex::{NoExpand, Regex, RegexInput, Result, escape};
@@ -20,22 +30,25 @@ pub struct Replacing {
     pub literal: u32,
 }
 
-/// The text with its matches replaced, where the regex can search it.
+/// The text with its matches replaced.
 fn replaced<'t>(
     regex: &Regex,
     text: &'t str,
     replacement: &str,
     how: Replacing,
-) -> Result<Option<CowStr<'t, Global>>> {
-    if !regex.can_search(&RegexInput::new(text)) {
-        return Ok(None);
-    }
-    let answer = if how.literal == 0 {
-        regex.replacen(text, how.limit, replacement)?
+) -> Result<CowStr<'t, Global>>
+    requires suits { Suits (options_in regex.now) true text.now }
+    ensures borrowed { IfOk result (λ t. IsBorrowedStr t ↔ (all_matches regex.now text.now ≡ [])) }
+    ensures text { IfOk result
+        (λ t. cow_str_bytes t ≡ text_with regex.now text.now replacement.now how) }
+    ensures allowed { IfOk result (λ _. AllowsReplacing regex.now text.now how.limit) }
+    ensures refused { IfErr result (λ e. IsRefusedAfterSome regex.now text.now how.limit e) }
+{
+    if how.literal == 0 {
+        regex.replacen(text, how.limit, replacement)
     } else {
-        regex.replacen(text, how.limit, NoExpand(replacement))?
-    };
-    Ok(Some(answer))
+        regex.replacen(text, how.limit, NoExpand(replacement))
+    }
 }
 
 fn replace_in(
@@ -45,7 +58,9 @@ fn replace_in(
     how: Replacing,
     buffer: &mut [u8],
     wanted: &mut usize,
-) -> u32 {
+) -> u32
+    ensures { TellsReplaced regex.now text.now replacement.now how buffer.old buffer.new wanted.new result }
+{
     *wanted = 0;
     let Ok(text) = str::from_utf8(text) else {
         return NOT_TEXT;
@@ -53,11 +68,33 @@ fn replace_in(
     let Ok(replacement) = str::from_utf8(replacement) else {
         return NOT_TEXT;
     };
+    if !regex.can_search(&RegexInput::new(text)) {
+        return NO_PLACE;
+    }
     match replaced(regex, text, replacement, how) {
-        Ok(Some(CowStr::Owned(answer))) => put(answer.as_str().as_bytes(), buffer, wanted),
-        Ok(Some(CowStr::Borrowed(_))) => NONE,
-        Ok(None) => NO_PLACE,
+        Ok(CowStr::Owned(answer)) => put(answer.as_str().as_bytes(), buffer, wanted),
+        Ok(CowStr::Borrowed(_)) => NONE,
         Err(error) => answer_of(error),
+    }
+}
+
+impl Kept {
+    fn replace(
+        &self,
+        text: &[u8],
+        replacement: &[u8],
+        how: Replacing,
+        buffer: &mut [u8],
+        wanted: &mut usize,
+    ) -> u32
+        ensures { ByRegex self.now
+            (λ r. TellsReplaced r text.now replacement.now how buffer.old buffer.new wanted.new result)
+            ((result ≡ 5) × (buffer.new ≡ buffer.old) × (wanted.new ≡ wanted.old)) }
+    {
+        match self {
+            Kept::Regex(regex) => replace_in(regex, text, replacement, how, buffer, wanted),
+            _ => NO_HANDLE,
+        }
     }
 }
 
@@ -75,60 +112,51 @@ pub extern "C" fn fancy_regex_replace(
     how: &Replacing,
     buffer: &mut [u8],
     wanted: &mut usize,
-) -> u32 {
+) -> u32
+    ensures kept { IsSame regex.new regex.old }
+    ensures answer { HeldRegex regex.old
+        (λ r. TellsReplaced r text.now replacement.now how.now buffer.old buffer.new wanted.new result)
+        ((result ≡ 5) × (buffer.new ≡ buffer.old) × (wanted.new ≡ wanted.old)) }
+{
     let Some(kept) = regex.take(alloc) else {
         return NO_HANDLE;
     };
-    let answer = match &*kept {
-        Kept::Regex(regex) => replace_in(regex, text, replacement, *how, buffer, wanted),
-        _ => NO_HANDLE,
-    };
+    let answer = kept.replace(text, replacement, *how, buffer, wanted);
     *regex = Handle::of(kept);
     answer
 }
 
-/// Pieces of a text, of which those are written for which there is room.
-#[derive(Drop)]
-struct Pieces<'p> {
-    room: &'p mut [Span],
-    // how many there are
-    count: usize,
-    // where the last match ended
-    last: usize,
-}
-
-impl<'p> Pieces<'p> {
-    fn push(&mut self, end: usize) {
-        if self.count < self.room.len() {
-            self.room[self.count] = Span {
-                start: self.last,
-                end,
-            };
-        }
-        self.count = self.count.saturating_add(1);
-    }
-}
-
-/// Cuts a text. It answers `false` for one that the regex cannot search.
-fn cut(regex: &Regex, text: &str, limit: usize, pieces: &mut Pieces<'_>) -> Result<bool> {
-    let input = RegexInput::new(text);
-    if !regex.can_search(&input) {
-        return Ok(false);
-    }
+/// Writes where the first pieces of a text stand, for which there is room, and counts them.
+fn cut(
+    regex: &Regex,
+    text: &str,
+    limit: usize,
+    pieces: &mut [Span],
+    count: &mut usize,
+) -> Result<()>
+    requires suits { Suits (options_in regex.now) true text.now }
+    requires none { count.old ≡ 0 }
+    ensures counted { IfOk result (λ _. count.new ≡ length (pieces_of regex.now text.now limit)) }
+    ensures put { IfOk result (λ _. pieces.new ≡ filled (pieces_of regex.now text.now limit) pieces.old) }
+    ensures refused { IfErr result (λ e. RefusesOneOf regex.now text.now (whole text.now) e) }
+{
     if limit == 0 {
-        return Ok(true);
+        return Ok(());
     }
-    for found in regex.find_iter_input(input) {
-        if pieces.count.saturating_add(1) >= limit {
-            pieces.push(text.len());
-            return Ok(true);
-        }
+    let mut start = 0;
+    let mut list = regex.find_iter(text);
+    'pieces: while *count + 1 < limit {
+        let Some(found) = list.next() else {
+            break;
+        };
         let found = found?;
-        pieces.push(found.start());
-        pieces.last = found.end();
+        let end = found.start();
+        put_next(Span { start, end }, pieces, count);
+        start = found.end();
     }
-    pieces.push(text.len());
-    Ok(true)
+    let end = text.len();
+    put_next(Span { start, end }, pieces, count);
+    Ok(())
 }
 
 fn split_in(
@@ -137,27 +165,44 @@ fn split_in(
     limit: usize,
     pieces: &mut [Span],
     wanted: &mut usize,
-) -> u32 {
+) -> u32
+    ensures { TellsPieces regex.now text.now limit pieces.old pieces.new wanted.new result }
+{
     *wanted = 0;
     let Ok(text) = str::from_utf8(text) else {
         return NOT_TEXT;
     };
-    let room = pieces.len();
-    let mut cuts = Pieces {
-        room: pieces,
-        count: 0,
-        last: 0,
-    };
-    match cut(regex, text, limit, &mut cuts) {
-        Ok(true) => {}
-        Ok(false) => return NO_PLACE,
-        Err(error) => return answer_of(error),
+    if !regex.can_search(&RegexInput::new(text)) {
+        return NO_PLACE;
     }
-    *wanted = cuts.count;
-    if room < cuts.count { TOO_SHORT } else { DONE }
+    match cut(regex, text, limit, pieces, wanted) {
+        Ok(()) if *wanted <= pieces.len() => DONE,
+        Ok(()) => TOO_SHORT,
+        Err(error) => {
+            *wanted = 0;
+            answer_of(error)
+        }
+    }
+}
+
+impl Kept {
+    fn split(&self, text: &[u8], limit: usize, pieces: &mut [Span], wanted: &mut usize) -> u32
+        ensures { ByRegex self.now
+            (λ r. TellsPieces r text.now limit pieces.old pieces.new wanted.new result)
+            ((result ≡ 5) × (pieces.new ≡ pieces.old) × (wanted.new ≡ wanted.old)) }
+    {
+        match self {
+            Kept::Regex(regex) => split_in(regex, text, limit, pieces, wanted),
+            _ => NO_HANDLE,
+        }
+    }
 }
 
 /// Writes where the pieces of a text between its matches stand into a buffer, at most so many pieces, and tells how many there are.
+///
+/// The last piece is the rest of the text. `TOO_SHORT` where there is not room for all; then the first ones are written. `NOT_TEXT`
+/// where the text is no UTF-8, `NO_PLACE` where the regex reads bytes and the text is not ASCII, and what a search is refused with:
+/// then 0 is told. `NO_HANDLE` where the handle holds no regex.
 #[unsafe(no_mangle)]
 pub extern "C" fn fancy_regex_split(
     alloc: Global,
@@ -166,14 +211,16 @@ pub extern "C" fn fancy_regex_split(
     limit: usize,
     pieces: &mut [Span],
     wanted: &mut usize,
-) -> u32 {
+) -> u32
+    ensures kept { IsSame regex.new regex.old }
+    ensures answer { HeldRegex regex.old
+        (λ r. TellsPieces r text.now limit pieces.old pieces.new wanted.new result)
+        ((result ≡ 5) × (pieces.new ≡ pieces.old) × (wanted.new ≡ wanted.old)) }
+{
     let Some(kept) = regex.take(alloc) else {
         return NO_HANDLE;
     };
-    let answer = match &*kept {
-        Kept::Regex(regex) => split_in(regex, text, limit, pieces, wanted),
-        _ => NO_HANDLE,
-    };
+    let answer = kept.split(text, limit, pieces, wanted);
     *regex = Handle::of(kept);
     answer
 }

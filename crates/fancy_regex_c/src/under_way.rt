@@ -4,6 +4,13 @@
 //! times as many each time, up to 512. So what a search is refused for is told in its turn, and a list that is left early did not
 //! search much further.
 
+ghost use Rattle.std.specs.Prelude.{◌≡◌, ◌⊎◌, ⊤, IfOk, IfErr};
+ghost use Rattle.fancy_regex_c.specs.Answers.{IsUnread};
+ghost use Rattle.fancy_regex_c.specs.Asked.{says_text, IsAsSaid, IsPlace, IsPlaceOfSet};
+ghost use Rattle.fancy_regex_c.specs.Handed.{handed_bytes, is_handed_text};
+ghost use Rattle.fancy_regex_c.specs.Handles.{IsSame, ByRegex, BySet, HeldRegex, HeldSet};
+ghost use Rattle.fancy_regex_c.specs.UnderWay.{owned_bytes, is_owned_text, IsMatchListOf, IsTokenListOf, ByMatches, ByTokens, HeldMatches, HeldTokens, Begins};
+
 use crate::answers::{DONE, NO_HANDLE, NO_MEMORY, NONE, NOT_TEXT, UNMATCHED};
 use crate::handed::Handed;
 use crate::handle::{Handle, Kept};
@@ -30,7 +37,13 @@ enum Owned {
 
 impl Owned {
     /// A copy of the bytes as the request reads them, or the answer for those that are to be text and are none.
-    fn new(alloc: Global, bytes: &[u8], request: Request) -> Result<Owned, u32> {
+    fn new(alloc: Global, bytes: &[u8], request: Request) -> Result<Owned, u32>
+        ensures bytes { IfOk result (λ o. owned_bytes o ≡ bytes.now) }
+        ensures text { IfOk result (λ o. is_owned_text o ≡ says_text request) }
+        ensures said { IfOk result (λ _. IsAsSaid bytes.now request) }
+        ensures refused { IfErr result
+            (λ answer. ((answer ≡ 2) × (IsAsSaid bytes.now request → ⊥)) ⊎ (answer ≡ 4)) }
+    {
         if !request.has(TEXT) {
             return match Vec::from_slice(alloc, bytes) {
                 Ok(bytes) => Ok(Owned::Bytes(bytes)),
@@ -46,7 +59,10 @@ impl Owned {
         }
     }
 
-    fn lend(&self) -> Handed<'_> {
+    fn lend(&self) -> Handed<'_>
+        ensures bytes { handed_bytes result ≡ owned_bytes self.now }
+        ensures text { is_handed_text result ≡ is_owned_text self.now }
+    {
         match self {
             Owned::Text(text) => Handed::text(text.as_str()),
             Owned::Bytes(bytes) => Handed::bytes(bytes.as_slice()),
@@ -187,7 +203,14 @@ fn list_of(
     haystack: &[u8],
     request: Request,
     has_groups: bool,
-) -> Result<MatchList, u32> {
+) -> Result<MatchList, u32>
+    ensures list { IfOk result (λ l. IsMatchListOf regex.now.value haystack.now request l) }
+    ensures said { IfOk result (λ _. IsAsSaid haystack.now request) }
+    ensures place { IfOk result (λ _. IsPlace regex.now.value haystack.now request) }
+    ensures refused { IfErr result (λ answer.
+        IsUnread (IsAsSaid haystack.now request) (IsPlace regex.now.value haystack.now request) answer
+        ⊎ (answer ≡ 4)) }
+{
     let haystack = Owned::new(alloc, haystack, request)?;
     haystack.lend().input_in(regex, request)?;
     let Ok(regex) = regex.clone() else {
@@ -203,7 +226,73 @@ fn list_of(
     })
 }
 
+impl Kept {
+    fn begin_matches(
+        &self,
+        alloc: Global,
+        haystack: &[u8],
+        request: Request,
+        has_groups: bool,
+        list: &mut Handle,
+    ) -> u32
+        ensures { ByRegex self.now
+            (λ r. Begins (IsAsSaid haystack.now request) (IsPlace r haystack.now request)
+            (HeldMatches list.new (IsMatchListOf r haystack.now request) ⊥) (IsSame list.new list.old) result)
+            ((result ≡ 5) × IsSame list.new list.old) }
+    {
+        match self {
+            Kept::Regex(regex) => match list_of(alloc, regex, haystack, request, has_groups) {
+                Ok(matches) => keep(alloc, Kept::Matches(matches), list),
+                Err(answer) => answer,
+            },
+            _ => NO_HANDLE,
+        }
+    }
+
+    fn begin_tokens(
+        &self,
+        alloc: Global,
+        haystack: &[u8],
+        request: Request,
+        list: &mut Handle,
+    ) -> u32
+        ensures { BySet self.now
+            (λ s. Begins (IsAsSaid haystack.now request) (IsPlaceOfSet s haystack.now request)
+            (HeldTokens list.new (IsTokenListOf s haystack.now request) ⊥) (IsSame list.new list.old) result)
+            ((result ≡ 5) × IsSame list.new list.old) }
+    {
+        match self {
+            Kept::Set(set) => match tokens_of(alloc, set, haystack, request) {
+                Ok(tokens) => keep(alloc, Kept::Tokens(tokens), list),
+                Err(answer) => answer,
+            },
+            _ => NO_HANDLE,
+        }
+    }
+
+    fn next_match(&mut self, groups: &mut [Span]) -> u32
+        ensures { ByMatches self.old (λ _. ⊤) ((result ≡ 5) × (groups.new ≡ groups.old)) }
+    {
+        match self {
+            Kept::Matches(matches) => matches.next(groups),
+            _ => NO_HANDLE,
+        }
+    }
+
+    fn next_token(&mut self, token: &mut Member) -> u32
+        ensures { ByTokens self.old (λ _. ⊤) ((result ≡ 5) × (token.new ≡ token.old)) }
+    {
+        match self {
+            Kept::Tokens(tokens) => tokens.next(token),
+            _ => NO_HANDLE,
+        }
+    }
+}
+
 /// Begins a list of matches, with their groups where `has_groups` is not 0. It copies the haystack.
+///
+/// For all answers but `DONE` the other handle keeps what it held: `NOT_TEXT` and `NO_PLACE`, as those of
+/// [`crate::regexes::fancy_regex_is_match`]; `NO_MEMORY`; `NO_HANDLE` where the handle holds no regex.
 #[unsafe(no_mangle)]
 pub extern "C" fn fancy_regex_matches_new(
     alloc: Global,
@@ -212,31 +301,30 @@ pub extern "C" fn fancy_regex_matches_new(
     request: &Request,
     has_groups: u32,
     list: &mut Handle,
-) -> u32 {
+) -> u32
+    ensures kept { IsSame regex.new regex.old }
+    ensures answer { HeldRegex regex.old
+        (λ r. Begins (IsAsSaid haystack.now request.now) (IsPlace r haystack.now request.now)
+        (HeldMatches list.new (IsMatchListOf r haystack.now request.now) ⊥) (IsSame list.new list.old) result)
+        ((result ≡ 5) × IsSame list.new list.old) }
+{
     let Some(kept) = regex.take(alloc) else {
         return NO_HANDLE;
     };
-    let answer = match &*kept {
-        Kept::Regex(regex) => match list_of(alloc, regex, haystack, *request, has_groups != 0) {
-            Ok(matches) => keep(alloc, Kept::Matches(matches), list),
-            Err(answer) => answer,
-        },
-        _ => NO_HANDLE,
-    };
+    let answer = kept.begin_matches(alloc, haystack, *request, has_groups != 0, list);
     *regex = Handle::of(kept);
     answer
 }
 
-/// Writes the groups of the next match of a list, as many as there is room for.
+/// Writes the groups of the next match of a list, as many as there is room for. `NO_HANDLE` where the handle holds no such list.
 #[unsafe(no_mangle)]
-pub extern "C" fn fancy_regex_next(alloc: Global, list: &mut Handle, groups: &mut [Span]) -> u32 {
+pub extern "C" fn fancy_regex_next(alloc: Global, list: &mut Handle, groups: &mut [Span]) -> u32
+    ensures { HeldMatches list.old (λ _. ⊤) ((result ≡ 5) × (groups.new ≡ groups.old)) }
+{
     let Some(mut kept) = list.take(alloc) else {
         return NO_HANDLE;
     };
-    let answer = match &mut *kept {
-        Kept::Matches(matches) => matches.next(groups),
-        _ => NO_HANDLE,
-    };
+    let answer = kept.next_match(groups);
     *list = Handle::of(kept);
     answer
 }
@@ -303,7 +391,14 @@ fn tokens_of(
     set: &Arc<RegexSet, Global>,
     haystack: &[u8],
     request: Request,
-) -> Result<TokenList, u32> {
+) -> Result<TokenList, u32>
+    ensures list { IfOk result (λ l. IsTokenListOf set.now.value haystack.now request l) }
+    ensures said { IfOk result (λ _. IsAsSaid haystack.now request) }
+    ensures place { IfOk result (λ _. IsPlaceOfSet set.now.value haystack.now request) }
+    ensures refused { IfErr result (λ answer.
+        IsUnread (IsAsSaid haystack.now request) (IsPlaceOfSet set.now.value haystack.now request) answer
+        ⊎ (answer ≡ 4)) }
+{
     let haystack = Owned::new(alloc, haystack, request)?;
     haystack.lend().input_in_set(set, request)?;
     let Ok(set) = set.clone() else {
@@ -318,7 +413,8 @@ fn tokens_of(
     })
 }
 
-/// Begins a list of tokens. It copies the haystack.
+/// Begins a list of tokens. It copies the haystack. The answers are those of [`fancy_regex_matches_new`]; `NO_HANDLE` where the handle holds
+/// no set.
 #[unsafe(no_mangle)]
 pub extern "C" fn fancy_regex_tokens_new(
     alloc: Global,
@@ -326,35 +422,34 @@ pub extern "C" fn fancy_regex_tokens_new(
     haystack: &[u8],
     request: &Request,
     list: &mut Handle,
-) -> u32 {
+) -> u32
+    ensures kept { IsSame set.new set.old }
+    ensures answer { HeldSet set.old
+        (λ s. Begins (IsAsSaid haystack.now request.now) (IsPlaceOfSet s haystack.now request.now)
+        (HeldTokens list.new (IsTokenListOf s haystack.now request.now) ⊥) (IsSame list.new list.old) result)
+        ((result ≡ 5) × IsSame list.new list.old) }
+{
     let Some(kept) = set.take(alloc) else {
         return NO_HANDLE;
     };
-    let answer = match &*kept {
-        Kept::Set(set) => match tokens_of(alloc, set, haystack, *request) {
-            Ok(tokens) => keep(alloc, Kept::Tokens(tokens), list),
-            Err(answer) => answer,
-        },
-        _ => NO_HANDLE,
-    };
+    let answer = kept.begin_tokens(alloc, haystack, *request, list);
     *set = Handle::of(kept);
     answer
 }
 
-/// Writes the next token of a list.
+/// Writes the next token of a list. `NO_HANDLE` where the handle holds no such list.
 #[unsafe(no_mangle)]
 pub extern "C" fn fancy_regex_next_token(
     alloc: Global,
     list: &mut Handle,
     token: &mut Member,
-) -> u32 {
+) -> u32
+    ensures { HeldTokens list.old (λ _. ⊤) ((result ≡ 5) × (token.new ≡ token.old)) }
+{
     let Some(mut kept) = list.take(alloc) else {
         return NO_HANDLE;
     };
-    let answer = match &mut *kept {
-        Kept::Tokens(tokens) => tokens.next(token),
-        _ => NO_HANDLE,
-    };
+    let answer = kept.next_token(token);
     *list = Handle::of(kept);
     answer
 }
