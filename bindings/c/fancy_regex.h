@@ -158,7 +158,8 @@ void fancy_regex_default_options(fancy_regex_options *options);
 uint32_t fancy_regex_new(const uint8_t *pattern, size_t pattern_len, const fancy_regex_options *options,
                          fancy_regex_handle *regex, fancy_regex_fault *fault);
 
-/* Reads the patterns of a set, which stand one after another in `patterns`; `ends` has the offset at which each ends. As above. */
+/* Reads the patterns of a set, which stand one after another in `patterns`; `ends` has the offset at which each ends. As above; the
+ * fault says of which pattern it is. */
 uint32_t fancy_regex_set_new(const uint8_t *patterns, size_t patterns_len, const size_t *ends, size_t count,
                              const fancy_regex_options *options, fancy_regex_handle *set, fancy_regex_fault *fault);
 
@@ -168,7 +169,7 @@ uint32_t fancy_regex_again(fancy_regex_handle *handle, fancy_regex_handle *out);
 /* Frees what a handle owns. It is empty then. */
 void fancy_regex_free(fancy_regex_handle *handle);
 
-/* Writes the text of a fault, and tells its length: DONE, TOO_SHORT, NO_MEMORY, for which nothing is written. */
+/* Writes the text of a fault, and tells its length: DONE, TOO_SHORT; NO_MEMORY, for which the length is 0. */
 uint32_t fancy_regex_explain(const fancy_regex_fault *fault, uint8_t *buffer, size_t buffer_len, size_t *wanted);
 
 /* Writes the name that a pattern refers to and that no group has, for FANCY_REGEX_INVALID_GROUP_NAME_BACKREF: it reads the pattern
@@ -234,9 +235,11 @@ uint32_t fancy_regex_tokens_new(fancy_regex_handle *set, const uint8_t *haystack
  * end of `token`; then the list has ended. */
 uint32_t fancy_regex_next_token(fancy_regex_handle *list, fancy_regex_member *token);
 
-/* ---- New texts: DONE, TOO_SHORT with the length that is wanted, and the answers of searches ---- */
+/* ---- New texts: DONE, TOO_SHORT with the length that is wanted. NO_HANDLE comes first; then NOT_TEXT, where a text or a replacement is no
+ * UTF-8; then NO_PLACE, where the regex reads bytes and the text is not ASCII; then NO_MEMORY and the three limits. For all these the
+ * length is 0, but for NO_HANDLE, for which nothing is told. ---- */
 
-/* Writes the text with its matches replaced. NONE: nothing matches, and nothing is written. */
+/* Writes the text with its matches replaced. NONE: nothing matches, nothing is written, and the length is 0. */
 uint32_t fancy_regex_replace(fancy_regex_handle *regex, const uint8_t *text, size_t text_len, const uint8_t *replacement,
                              size_t replacement_len, const fancy_regex_replacing *how, uint8_t *buffer, size_t buffer_len,
                              size_t *wanted);
@@ -259,8 +262,8 @@ size_t fancy_regex_set_len(fancy_regex_handle *set);
 uint32_t fancy_regex_set_find(fancy_regex_handle *set, const uint8_t *haystack, size_t haystack_len,
                               const fancy_regex_request *request, fancy_regex_member *members, size_t count, size_t *wanted);
 
-/* Writes the next tokens, at most `count`, and tells how many: at each place the longest match that starts there. DONE: there may
- * be more, and `request` says where the next one starts. NONE: the text has ended. UNMATCHED: no pattern gives a token where
+/* Writes the next tokens, at most `count`, and tells how many: at each place the longest match that starts there. DONE: all of
+ * `count` are written, and `request` says where the next one starts. NONE: the text has ended. UNMATCHED: no pattern gives a token where
  * `request` starts now. */
 uint32_t fancy_regex_tokens(fancy_regex_handle *set, const uint8_t *haystack, size_t haystack_len, fancy_regex_request *request,
                             fancy_regex_member *tokens, size_t count, size_t *written);
