@@ -14,4 +14,5 @@ pub mod Replacements
 pub mod Splitting
 pub mod UnderWay
 pub mod SetReading
+pub mod TokenGiving
 pub mod Handles

@@ -2,8 +2,11 @@
 
 ghost use Rattle.std.specs.Prelude.{◌≡◌, ⊤, IfOk, IfErr, length};
 ghost use Rattle.fancy_regex.specs.Sets.{members_of};
-ghost use Rattle.fancy_regex_c.specs.Handles.{IsSame, HeldSet};
+ghost use Rattle.fancy_regex_c.specs.Asked.{IsPlaceInSet};
+ghost use Rattle.fancy_regex_c.specs.Handed.{handed_bytes, is_handed_text};
+ghost use Rattle.fancy_regex_c.specs.Handles.{IsSame, BySet, HeldSet};
 ghost use Rattle.fancy_regex_c.specs.SetReading.{part, AreRead, IsSetFault, IsSetToldBy};
+ghost use Rattle.fancy_regex_c.specs.TokenGiving.{asked_of_set, TellsTokensIn, TellsTokens};
 
 use crate::answers::{DONE, NO_HANDLE, NO_MEMORY, NONE, TOO_SHORT, answer_of};
 use crate::handed::Handed;
@@ -187,41 +190,83 @@ pub extern "C" fn fancy_regex_set_find(
     answer
 }
 
+impl Kept {
+    fn tokens(
+        &self,
+        haystack: &[u8],
+        request: &mut Request,
+        tokens: &mut [Member],
+        written: &mut usize,
+    ) -> u32
+        ensures { BySet self.now
+            (λ s. TellsTokens s haystack.now request.old request.new tokens.old tokens.new written.new result)
+            ((result ≡ 5) × (request.new ≡ request.old) × (tokens.new ≡ tokens.old)
+            × (written.new ≡ written.old)) }
+    {
+        match self {
+            Kept::Set(set) => tokens_of_bytes(set, haystack, request, tokens, written),
+            _ => NO_HANDLE,
+        }
+    }
+}
+
+/// Gives the next tokens, as many as there is room for. The request says then where the next one starts.
 pub fn tokens_in(
     set: &RegexSet,
     haystack: Handed<'_>,
     request: &mut Request,
     tokens: &mut [Member],
     written: &mut usize,
-) -> u32 {
+) -> u32
+    ensures { TellsTokensIn (asked_of_set set.now (handed_bytes haystack.entry) request.old)
+        (IsPlaceInSet set.now (is_handed_text haystack.entry) (handed_bytes haystack.entry) request.old)
+        request.old request.new tokens.old tokens.new written.new result }
+{
     *written = 0;
     let input = match haystack.input_in_set(set, *request) {
         Ok(input) => input,
         Err(answer) => return answer,
     };
     let mut list = set.tokens(input);
-    for place in 0..tokens.len() {
+    for index in 0..tokens.len() {
+        let start = list.place();
         match list.next() {
             Some(Ok(token)) => {
-                tokens[place] = Member {
+                tokens[index] = Member {
                     pattern: token.pattern(),
-                    start: token.start(),
-                    end: token.end(),
+                    start,
+                    end: list.place(),
                 };
-                *written = place + 1;
-                request.start = token.end();
-            }
-            Some(Err(error)) => {
+                *written = index + 1;
                 request.start = list.place();
-                return answer_of(error);
             }
+            Some(Err(error)) => return answer_of(error),
             None => return NONE,
         }
     }
     DONE
 }
 
+fn tokens_of_bytes(
+    set: &RegexSet,
+    haystack: &[u8],
+    request: &mut Request,
+    tokens: &mut [Member],
+    written: &mut usize,
+) -> u32
+    ensures { TellsTokens set.now haystack.now request.old request.new tokens.old tokens.new written.new result }
+{
+    *written = 0;
+    match Handed::new(haystack, *request) {
+        Ok(haystack) => tokens_in(set, haystack, request, tokens, written),
+        Err(answer) => answer,
+    }
+}
+
 /// The tokens of a text, as many as there is room for. The request says then where the next one starts.
+///
+/// `DONE` where all that there is room for are written, `NONE` where the range has ended, `UNMATCHED` where no pattern gives a token
+/// where the request starts now, and what a pattern is refused with there. `NO_HANDLE` where the handle holds no set.
 #[unsafe(no_mangle)]
 pub extern "C" fn fancy_regex_tokens(
     alloc: Global,
@@ -232,18 +277,15 @@ pub extern "C" fn fancy_regex_tokens(
     written: &mut usize,
 ) -> u32
     ensures kept { IsSame set.new set.old }
-    ensures answer { HeldSet set.old (λ _. ⊤) (result ≡ 5) }
+    ensures answer { HeldSet set.old
+        (λ s. TellsTokens s haystack.now request.old request.new tokens.old tokens.new written.new result)
+        ((result ≡ 5) × (request.new ≡ request.old) × (tokens.new ≡ tokens.old)
+        × (written.new ≡ written.old)) }
 {
     let Some(kept) = set.take(alloc) else {
         return NO_HANDLE;
     };
-    let answer = match &*kept {
-        Kept::Set(set) => match Handed::new(haystack, *request) {
-            Ok(haystack) => tokens_in(set, haystack, request, tokens, written),
-            Err(answer) => answer,
-        },
-        _ => NO_HANDLE,
-    };
+    let answer = kept.tokens(haystack, request, tokens, written);
     *set = Handle::of(kept);
     answer
 }
