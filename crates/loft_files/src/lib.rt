@@ -4,6 +4,10 @@
 ghost use Rattle.std.specs.Prelude.{◌≡◌, ◌++◌, List, ℕ, Option, IfSome, OnOk, OnErr, [], option_map};
 
 mod disk;
+#[cfg(test)]
+mod memory;
+#[cfg(test)]
+mod tests;
 
 pub use disk::DiskStore;
 use std::io;

@@ -2,7 +2,7 @@
 
 ghost use Rattle.std.specs.Prelude.{◌≡◌, Some, option_map};
 
-use loft_files::Store;
+use crate::Store;
 use std::alloc::Global;
 use std::io;
 

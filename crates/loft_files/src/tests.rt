@@ -1,5 +1,5 @@
-use crate::store::MemoryStore;
-use loft_files::put_in_place;
+use crate::memory::MemoryStore;
+use crate::put_in_place;
 use std::alloc::Global;
 use std::test::Fail;
 
