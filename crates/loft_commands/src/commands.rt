@@ -4,9 +4,8 @@ ghost use Rattle.std.specs.Prelude.{◌≤◌};
 
 use crate::tasks::outcome_of;
 use fancy_regex::Explain;
-use loft_parse::{Request, read_words};
 use loft_texts::{Console, Fault, Outcome, Terminals};
-use loft_words::{Command, Task};
+use loft_words::{Command, Request, Task, read_words};
 use std::io::{self, Input, Write};
 use std::rt::Files;
 use std::time::Clock;

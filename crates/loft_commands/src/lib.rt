@@ -14,9 +14,21 @@
 //! second writer, and the others are still done.
 #![tactic(auto)]
 
+mod check;
 mod commands;
+mod explain;
+mod find;
+mod hard_forms;
+mod in_place;
+mod json;
 mod patterns;
+mod preview;
+mod replace;
+mod rewrite;
+mod search;
+mod split;
 mod tasks;
+mod tokens;
 
 pub use commands::run;
 pub use loft_texts::Terminals;

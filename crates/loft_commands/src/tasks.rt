@@ -1,13 +1,17 @@
 //! What each command does.
 
-use crate::patterns::{library_options, read_pattern, read_patterns};
+use crate::check::Check;
+use crate::explain::write_explained;
+use crate::find::Find;
+use crate::in_place::replace_in_place;
+use crate::patterns::{Pattern, library_options, pattern_of, read_pattern, read_patterns};
+use crate::preview::Preview;
+use crate::replace::Replace;
+use crate::rewrite::Rewrite;
+use crate::split::Split;
+use crate::tokens::Tokens;
 use fancy_regex::{Regex, RegexSet};
-use loft_explain::write_explained;
-use loft_find::{Find, Split};
-use loft_lists::{Rule, read_rules};
-use loft_replace::{Preview, Replace, Rewrite, replace_in_place};
-use loft_texts::{Console, Fault, Outcome, read_all};
-use loft_tokens::{Check, Tokens};
+use loft_texts::{Console, Fault, Outcome, Rule, read_all, read_rules};
 use loft_words::{Command, PatternWork, Replacement, RulesWork, Task, Way, write_manual};
 use std::alloc::Global;
 use std::io::{Input, Write};
@@ -58,9 +62,8 @@ fn by_pattern<R: Files + Input + Clock + AllocGlobal, W: Write, X: Write>(
     work: PatternWork<'_>,
     console: &mut Console<'_, W, X>,
 ) -> Result<Outcome, Fault> {
-    let options = library_options(&command.options);
-    let regex = read_pattern(rt.alloc(), pattern, &options)?;
-    search(rt, &command.files, work, &regex, console)
+    let pattern = pattern_of(rt.alloc(), pattern, &command.options)?;
+    search(rt, &command.files, work, &pattern, console)
 }
 
 /// Does work with a pattern on each file.
@@ -68,21 +71,21 @@ fn search<R: Files + Input + Clock + AllocGlobal, W: Write, X: Write>(
     rt: &R,
     files: &[&str],
     work: PatternWork<'_>,
-    regex: &Regex,
+    pattern: &Pattern,
     console: &mut Console<'_, W, X>,
 ) -> Result<Outcome, Fault> {
     match work {
         PatternWork::Find { report, colours } => {
             let colours = colours.are_wanted(console.terminals.output);
-            let mut find = Find::new(regex, report, colours);
+            let mut find = Find::new(pattern, report, colours);
             console.each_file(rt, files, &mut find)
         }
         PatternWork::Split { terminator } => {
-            let mut split = Split::new(regex, terminator);
+            let mut split = Split::new(pattern, terminator);
             console.each_file(rt, files, &mut split)
         }
         PatternWork::Replace { by, way } => {
-            let rewrite = Rewrite::new(rt.alloc(), regex, by)?;
+            let rewrite = Rewrite::new(rt.alloc(), pattern, by)?;
             replace(rt, files, rewrite, way, console)
         }
     }

@@ -7,9 +7,6 @@ use std::io::{Input, Write};
 use std::rt::Files;
 use std::time::{Clock, Duration};
 
-/// How many lines are read between two looks at the clock.
-const LINES_PER_LOOK: u64 = 8_192;
-
 /// What of the process's streams is a terminal.
 #[derive(Clone, Copy)]
 pub struct Terminals {
@@ -52,8 +49,8 @@ impl<'c, W: Write, X: Write> Console<'c, W, X> {
     }
 
     /// Tells how much of a file was read, once a second, on the error's last line.
-    pub(crate) fn tell_progress<R: Clock>(&mut self, rt: &R, file: &str, number: u64, offset: u64) {
-        if !self.terminals.error || number % LINES_PER_LOOK != 0 {
+    pub(crate) fn tell_progress<R: Clock>(&mut self, rt: &R, file: &str, offset: u64) {
+        if !self.terminals.error {
             return;
         }
         let Ok(now) = rt.monotonic() else {

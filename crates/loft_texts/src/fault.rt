@@ -4,6 +4,31 @@ use fancy_tree::error::Error;
 use std::alloc::{AllocError, AllocFailed};
 use std::{fmt, io};
 
+/// What is wrong with a rule of a list.
+#[derive(Clone, Copy)]
+pub enum RuleFault {
+    /// The list is no CSV there.
+    Unreadable,
+    /// A field is no UTF-8.
+    NotText,
+    /// It has no name or no pattern.
+    Incomplete,
+    /// Its severity is neither error nor warning.
+    Severity,
+}
+
+impl RuleFault {
+    /// What is told of it.
+    fn words(self) -> &'static str {
+        match self {
+            RuleFault::Unreadable => "the list cannot be read",
+            RuleFault::NotText => "a field is no UTF-8",
+            RuleFault::Incomplete => "a rule has a name and a pattern",
+            RuleFault::Severity => "the severity is neither error nor warning",
+        }
+    }
+}
+
 /// What ended a command, or the work on one file.
 #[derive(Drop)]
 pub enum Fault {
@@ -16,7 +41,7 @@ pub enum Fault {
     /// Standard input was to be rewritten in place.
     InPlace,
     /// A rule of the list, counted from 1, is not one.
-    Rule(u64, &'static str),
+    Rule(u64, RuleFault),
     /// The pattern of a rule, counted from 1, is refused.
     RulePattern(u64, Error),
 }
@@ -38,7 +63,7 @@ impl fmt::Display for Fault {
             Fault::Input(error) => write!(f, "{error}"),
             Fault::Output(error) => write!(f, "{error}"),
             Fault::InPlace => write!(f, "standard input cannot be changed in place"),
-            Fault::Rule(number, what) => write!(f, "rule {number}: {what}"),
+            Fault::Rule(number, fault) => write!(f, "rule {number}: {}", fault.words()),
             Fault::RulePattern(number, error) => write!(f, "rule {number}: {error}"),
         }
     }

@@ -1,10 +1,11 @@
 //! Files and standard input, by lines or whole.
 
-ghost use Rattle.std.specs.Prelude.{◌≡◌, ◌++◌};
-
 use crate::console::Console;
+use crate::content::Content;
 use crate::fault::Fault;
-use crate::text::{Text, wide};
+use crate::lines::{Reading, line_start};
+use crate::text::Text;
+use fancy_bytes::byte_set::ByteSet;
 use fancy_lines::LineIndex;
 use std::alloc::Global;
 use std::fs::File;
@@ -16,6 +17,16 @@ use std::time::Clock;
 pub trait TextWork {
     /// Does its work with one text.
     fn text<W: Write>(&mut self, text: &Text<'_>, out: &mut W) -> Result<(), Fault>;
+
+    /// The bytes all of which each line has that is to be seen; none where each line is.
+    fn required(&self) -> Option<&ByteSet> {
+        None
+    }
+
+    /// Takes lines of which each lacks one of these bytes.
+    fn pass<W: Write>(&mut self, _lines: &[u8], _out: &mut W) -> Result<(), Fault> {
+        Ok(())
+    }
 
     /// Whether nothing more of the file is wanted.
     fn is_done(&self) -> bool {
@@ -95,13 +106,13 @@ fn text_of_file<'t>(file: &'t str, bytes: &'t [u8], lines: &'t LineIndex<'t>) ->
         file,
         line: 1,
         offset: 0,
-        bytes,
+        content: Content::of(bytes),
         end: b"",
         lines,
     }
 }
 
-/// Hands each line of a reader to the work.
+/// Hands each line of a reader to the work. Lines that were read whole are not copied.
 fn each_line<R: Clock + AllocGlobal, B: Read + Drop, V: TextWork, W: Write, X: Write>(
     rt: &R,
     reader: B,
@@ -112,35 +123,22 @@ fn each_line<R: Clock + AllocGlobal, B: Read + Drop, V: TextWork, W: Write, X: W
     let alloc = rt.alloc();
     let mut reader = BufReader::with_capacity(alloc, READ_AT_ONCE, reader).map_err(Fault::Input)?;
     let mut line = Vec::new(alloc);
-    let mut offset = 0u64;
-    for number in 1..u64::MAX {
+    let mut reading = Reading::new(file);
+    for turn in 0..u64::MAX {
         line.clear();
         let taken = reader.read_until(b'\n', &mut line).map_err(Fault::Input)?;
         if taken == 0 || work.is_done() {
             return Ok(());
         }
-        work.text(&text_of_line(file, number, offset, &line), console.out)?;
-        offset = offset.saturating_add(wide(taken));
-        console.tell_progress(rt, file, number, offset);
+        if turn == 0 {
+            reading.look_for(work.required(), reader.buffer());
+        }
+        reading.hand_on(&line, work, console.out)?;
+        let ahead = reader.buffer();
+        let whole = line_start(ahead, ahead.len());
+        reading.hand_on(&ahead[..whole], work, console.out)?;
+        reader.consume(whole);
+        console.tell_progress(rt, file, reading.offset);
     }
     Ok(())
-}
-
-/// A line as a text: what is before its line feed, and that line feed.
-fn text_of_line<'t>(file: &'t str, line: u64, offset: u64, bytes: &'t [u8]) -> Text<'t>
-    ensures whole { result.bytes.now ++ result.end.now ≡ bytes.now }
-{
-    let length = match bytes.last() {
-        Some(b'\n') => bytes.len() - 1,
-        _ => bytes.len(),
-    };
-    let (bytes, end) = bytes.split_at(length);
-    Text {
-        file,
-        line,
-        offset,
-        bytes,
-        end,
-        lines: None,
-    }
 }

@@ -2,26 +2,51 @@
 
 use std::io::{self, Write};
 
-/// What is written in a colour.
+/// A colour of a terminal.
 #[derive(Clone, Copy)]
 pub enum Colour {
-    /// A match.
-    Match,
-    /// The name of a file.
-    File,
-    /// The kind of a token, by its number.
-    Kind(usize),
+    Red,
+    BoldRed,
+    Green,
+    Yellow,
+    Blue,
+    Magenta,
+    Cyan,
 }
 
-/// The colours of kinds, in turn.
-const KINDS: [&str; 6] = ["34", "32", "33", "35", "36", "31"];
+/// The colours of kinds of tokens, in turn.
+const KINDS: [Colour; 6] = [
+    Colour::Blue,
+    Colour::Green,
+    Colour::Yellow,
+    Colour::Magenta,
+    Colour::Cyan,
+    Colour::Red,
+];
 
-/// The code of a colour.
-fn code(colour: Colour) -> &'static str {
-    match colour {
-        Colour::Match => "1;31",
-        Colour::File => "35",
-        Colour::Kind(kind) => KINDS[kind % 6],
+impl Colour {
+    /// The colour of matches.
+    pub const MATCH: Colour = Colour::BoldRed;
+
+    /// The colour of names of files.
+    pub const FILE: Colour = Colour::Magenta;
+
+    /// The colour of a kind of tokens, by its number.
+    pub fn of_kind(number: usize) -> Colour {
+        KINDS[number % KINDS.len()]
+    }
+
+    /// Its code.
+    fn code(self) -> &'static str {
+        match self {
+            Colour::Red => "31",
+            Colour::BoldRed => "1;31",
+            Colour::Green => "32",
+            Colour::Yellow => "33",
+            Colour::Blue => "34",
+            Colour::Magenta => "35",
+            Colour::Cyan => "36",
+        }
     }
 }
 
@@ -35,7 +60,7 @@ pub fn write_painted<W: Write>(
     if !colours || bytes.is_empty() {
         return out.write_all(bytes);
     }
-    write!(out, "\x1b[{}m", code(colour))?;
+    write!(out, "\x1b[{}m", colour.code())?;
     out.write_all(bytes)?;
     out.write_all(b"\x1b[0m")
 }

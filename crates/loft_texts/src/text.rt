@@ -1,5 +1,6 @@
 //! What is searched at once: a line, or a whole file.
 
+use crate::content::Content;
 use fancy_lines::LineIndex;
 
 /// A text, and where it stands.
@@ -11,8 +12,8 @@ pub struct Text<'t> {
     pub line: u64,
     /// Where it starts in the file, in bytes.
     pub offset: u64,
-    /// Its bytes, without the line feed that ends it.
-    pub bytes: &'t [u8],
+    /// What it has, without the line feed that ends it.
+    pub content: Content<'t>,
     /// The line feed that ends it, or nothing.
     pub end: &'t [u8],
     /// Its lines, where it is a whole file.
@@ -40,23 +41,27 @@ fn characters(bytes: &[u8]) -> usize {
 }
 
 impl<'t> Text<'t> {
+    /// Its bytes, without the line feed that ends it.
+    pub fn bytes(&self) -> &'t [u8] {
+        self.content.bytes()
+    }
+
     /// The place of a byte of the text.
     pub fn place(&self, at: usize) -> Place {
         let found = match self.lines {
             Some(lines) => lines.line_column_in_characters(at),
             None => None,
         };
-        match found {
-            Some(found) => Place {
-                line: self.line.saturating_add(wide(found.line)),
-                column: wide(found.column).saturating_add(1),
-            },
-            None => Place {
-                line: self.line,
-                column: wide(characters(self.bytes.get(..at).unwrap_or(self.bytes))).saturating_add(
-                    1,
-                ),
-            },
+        let (line, column) = match found {
+            Some(found) => (found.line, found.column),
+            None => (
+                0,
+                characters(self.bytes().get(..at).unwrap_or(self.bytes())),
+            ),
+        };
+        Place {
+            line: self.line.saturating_add(wide(line)),
+            column: wide(column).saturating_add(1),
         }
     }
 

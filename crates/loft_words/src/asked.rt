@@ -81,7 +81,7 @@ pub enum Way {
 }
 
 /// What is written of a text that matches.
-#[derive(Clone, Copy, PartialEq, Eq)]
+#[derive(Clone, Copy)]
 pub enum Report {
     /// The text with its place.
     Lines,

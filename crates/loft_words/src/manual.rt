@@ -1,8 +1,6 @@
 //! The manual page, made of the words of help.
 
-use crate::words::{
-    ABOUT, COMMANDS, Described, Flag, PATTERN_FLAGS, PATTERN_OPTIONS, STATUS, Valued,
-};
+use crate::words::{ABOUT, COMMANDS, Choice, Described, PATTERN_OPTIONS, STATUS};
 use std::io::{self, Write};
 
 /// Writes a text so that troff prints it as it is.
@@ -29,34 +27,17 @@ fn write_words<W: Write>(line: &str, out: &mut W) -> io::Result<()> {
     Ok(())
 }
 
-/// Writes how an option is written.
-fn write_option<W: Write>(
-    name: &str,
-    letter: Option<char>,
-    value: &str,
-    help: &str,
-    out: &mut W,
-) -> io::Result<()> {
-    out.write_all(b".TP\n.B ")?;
-    if let Some(letter) = letter {
-        write!(out, "\\-{letter}, ")?;
-    }
-    out.write_all(b"\\-\\-")?;
-    write_words(name, out)?;
-    writeln!(out, " {value}")?;
-    write_plain(help, out)
-}
-
-fn write_flags<W: Write>(flags: &[Flag], out: &mut W) -> io::Result<()> {
-    for flag in flags {
-        write_option(flag.name, flag.letter, "", flag.help, out)?;
-    }
-    Ok(())
-}
-
-fn write_options<W: Write>(options: &[Valued], out: &mut W) -> io::Result<()> {
+/// Writes how options are written, and what they do.
+fn write_options<W: Write>(options: &[Choice], out: &mut W) -> io::Result<()> {
     for option in options {
-        write_option(option.name, option.letter, option.value, option.help, out)?;
+        out.write_all(b".TP\n.B ")?;
+        if let Some(letter) = option.letter {
+            write!(out, "\\-{letter}, ")?;
+        }
+        out.write_all(b"\\-\\-")?;
+        write_words(option.name, out)?;
+        writeln!(out, " {}", option.value.name())?;
+        write_plain(option.help, out)?;
     }
     Ok(())
 }
@@ -74,7 +55,6 @@ fn write_command<W: Write>(described: &Described, out: &mut W) -> io::Result<()>
     })?;
     write_plain(described.about, out)?;
     out.write_all(b".\n")?;
-    write_flags(described.flags, out)?;
     write_options(described.options, out)?;
     out.write_all(b".PP\n.nf\n")?;
     write_plain(described.examples, out)?;
@@ -92,7 +72,6 @@ pub fn write_manual<W: Write>(out: &mut W) -> io::Result<()> {
         write_command(described, out)?;
     }
     out.write_all(b".SH OPTIONS OF PATTERNS\nEach command has these.\n")?;
-    write_flags(&PATTERN_FLAGS, out)?;
     write_options(&PATTERN_OPTIONS, out)?;
     out.write_all(b".SH FILES AND STATUS\n")?;
     write_plain(STATUS, out)

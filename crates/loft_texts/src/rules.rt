@@ -1,11 +1,11 @@
 //! The rules of a list.
 
+use crate::fault::{Fault, RuleFault};
 use csv::{ByteRecord, ReaderBuilder};
-use loft_texts::Fault;
 use std::alloc::Global;
 
 /// How bad it is that a rule matches.
-#[derive(Clone, Copy, PartialEq, Eq)]
+#[derive(Clone, Copy)]
 pub enum Severity {
     /// The check fails.
     Error,
@@ -27,7 +27,7 @@ fn text_field<'r>(record: &'r ByteRecord, field: usize, number: u64) -> Result<&
     let bytes = record.get(field).unwrap_or(b"");
     match std::str::from_utf8(bytes) {
         Ok(text) => Ok(text),
-        Err(_) => Err(Fault::Rule(number, "a field is no UTF-8")),
+        Err(_) => Err(Fault::Rule(number, RuleFault::NotText)),
     }
 }
 
@@ -36,7 +36,7 @@ fn read_severity(field: &str, number: u64) -> Result<Severity, Fault> {
     match field {
         "" | "error" => Ok(Severity::Error),
         "warning" => Ok(Severity::Warning),
-        _ => Err(Fault::Rule(number, "the severity is neither error nor warning")),
+        _ => Err(Fault::Rule(number, RuleFault::Severity)),
     }
 }
 
@@ -45,7 +45,7 @@ fn read_rule(alloc: Global, record: &ByteRecord, number: u64) -> Result<Rule, Fa
     let name = text_field(record, 0, number)?;
     let pattern = text_field(record, 1, number)?;
     if name.is_empty() || pattern.is_empty() {
-        return Err(Fault::Rule(number, "a rule has a name and a pattern"));
+        return Err(Fault::Rule(number, RuleFault::Incomplete));
     }
     let message = text_field(record, 2, number)?;
     let severity = read_severity(text_field(record, 3, number)?, number)?;
@@ -72,7 +72,7 @@ pub fn read_rules(alloc: Global, text: &[u8]) -> Result<Vec<Rule>, Fault> {
     let mut number = 0u64;
     for record in reader.into_byte_records() {
         let Ok(record) = record else {
-            return Err(Fault::Rule(number.saturating_add(1), "the list cannot be read"));
+            return Err(Fault::Rule(number.saturating_add(1), RuleFault::Unreadable));
         };
         if number == 0 && is_header(&record) {
             continue;

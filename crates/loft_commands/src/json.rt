@@ -1,7 +1,7 @@
 //! Matches as lines of JSON.
 
 use fancy_regex::{Captures, MatchBytes};
-use loft_texts::Text;
+use loft_texts::{Content, Text};
 use std::io::{self, Write};
 
 /// Writes a character of a text in quotation marks.
@@ -49,10 +49,13 @@ fn write_group<W: Write>(
 /// Writes a match with its groups as a line.
 pub(crate) fn write_json<W: Write>(
     text: &Text<'_>,
-    captures: &Captures<'_, &[u8]>,
-    start: usize,
+    captures: &Captures<'_, Content<'_>>,
     out: &mut W,
 ) -> io::Result<()> {
+    let start = match captures.get(0) {
+        Some(found) => found.start(),
+        None => 0,
+    };
     let place = text.place(start);
     out.write_all(b"{\"file\":")?;
     write_string(text.file.as_bytes(), out)?;

@@ -85,7 +85,7 @@ fn write_needs<W: Write>(
 }
 
 /// Writes how a pattern is read, which these options have made of its text.
-pub fn write_explained<W: Write>(
+pub(crate) fn write_explained<W: Write>(
     alloc: Global,
     regex: &Regex,
     options: &RegexOptionsBuilder,

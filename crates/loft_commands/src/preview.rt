@@ -1,13 +1,15 @@
 //! What a replacement would change, as a unified diff.
 
 use crate::rewrite::Rewrite;
+use bstr::ByteSlice;
+use fancy_regex::ByteSet;
 use loft_texts::{Fault, Text, TextWork, wide};
 use std::alloc::Global;
 use std::io::{self, Write};
 
 /// Writes what would change.
 #[derive(Drop)]
-pub struct Preview<'r> {
+pub(crate) struct Preview<'r> {
     alloc: Global,
     rewrite: Rewrite<'r>,
     found: bool,
@@ -19,12 +21,12 @@ pub struct Preview<'r> {
 
 /// How many lines the bytes have, with one that no line feed ends.
 fn lines(bytes: &[u8]) -> u64 {
-    wide(bytes.split_inclusive(|byte| *byte == b'\n').count())
+    wide(bytes.lines_with_terminator().count())
 }
 
 /// Writes lines with a mark before each.
 fn write_lines<W: Write>(mark: &[u8], bytes: &[u8], out: &mut W) -> io::Result<()> {
-    for line in bytes.split_inclusive(|byte| *byte == b'\n') {
+    for line in bytes.lines_with_terminator() {
         out.write_all(mark)?;
         out.write_all(line)?;
         if !line.ends_with(b"\n") {
@@ -37,8 +39,8 @@ fn write_lines<W: Write>(mark: &[u8], bytes: &[u8], out: &mut W) -> io::Result<(
 /// How many bytes of whole lines both begin with.
 fn common_lines(one: &[u8], other: &[u8]) -> usize {
     let mut common = 0usize;
-    let mut others = other.split_inclusive(|byte| *byte == b'\n');
-    for line in one.split_inclusive(|byte| *byte == b'\n') {
+    let mut others = other.lines_with_terminator();
+    for line in one.lines_with_terminator() {
         if others.next() != Some(line) {
             return common;
         }
@@ -59,7 +61,7 @@ fn until(bytes: &[u8], at: usize) -> &[u8] {
 
 impl<'r> Preview<'r> {
     /// Shows what is replaced in this way.
-    pub fn new(alloc: Global, rewrite: Rewrite<'r>) -> Preview<'r> {
+    pub(crate) fn new(alloc: Global, rewrite: Rewrite<'r>) -> Preview<'r> {
         Preview {
             alloc,
             rewrite,
@@ -83,7 +85,7 @@ impl<'r> Preview<'r> {
             self.shown = true;
         }
         let kept = common_lines(old, new);
-        let passed = lines(until(text.bytes, kept));
+        let passed = lines(until(text.bytes(), kept));
         let old = after(old, kept);
         let new = after(new, kept);
         let line = text.line.saturating_add(passed);
@@ -102,17 +104,21 @@ impl<'r> Preview<'r> {
 
 impl TextWork for Preview<'_> {
     fn text<W: Write>(&mut self, text: &Text<'_>, out: &mut W) -> Result<(), Fault> {
-        let Some(mut new) = self.rewrite.rewrite(text.bytes)? else {
+        let Some(mut new) = self.rewrite.rewrite(text.content)? else {
             return Ok(());
         };
         self.found = true;
-        if new.as_slice() == text.bytes {
+        if new.as_slice() == text.bytes() {
             return Ok(());
         }
-        let mut old = Vec::from_slice(self.alloc, text.bytes)?;
+        let mut old = Vec::from_slice(self.alloc, text.bytes())?;
         old.extend_from_slice(text.end)?;
         new.extend_from_slice(text.end)?;
         self.write_part(text, &old, &new, out)
+    }
+
+    fn required(&self) -> Option<&ByteSet> {
+        self.rewrite.required()
     }
 
     fn end<W: Write>(&mut self, _file: &str, _out: &mut W) -> Result<(), Fault> {

@@ -1,7 +1,7 @@
 //! Why a pattern is hard, as far as its text shows.
 
 /// Forms that make a pattern hard, and what they are called. The first that fits at a place is told.
-const FORMS: [(&str, &str); 16] = [
+const FORMS: [(&str, &str); 14] = [
     ("(?=", "look-ahead"),
     ("(?!", "negative look-ahead"),
     ("(?<=", "look-behind"),
@@ -16,8 +16,6 @@ const FORMS: [(&str, &str); 16] = [
     ("++", "possessive repeat"),
     ("?+", "possessive repeat"),
     ("}+", "possessive repeat"),
-    ("(*", "filter"),
-    ("(?~", "absence"),
 ];
 
 /// The form that begins here, if one does.

@@ -6,17 +6,19 @@ ghost use Rattle.fancy_regex.specs.Regexes.{options_in};
 ghost use Rattle.fancy_regex.specs.Replacing.{ReplacesBy, all_matches, with_template, with_text};
 ghost use Rattle.fancy_regex.specs.Searching.{Suits};
 
-use fancy_regex::{Captures, Error, Expander, NoExpand, Regex, RegexInput, Step};
-use loft_texts::Fault;
+use crate::patterns::Pattern;
+use crate::search::Search;
+use fancy_regex::{ByteSet, Captures, Error, Expander, NoExpand, Regex, Step};
+use loft_texts::{Content, Fault};
 use loft_words::Replacement;
 use std::alloc::{AllocError, Global};
 use std::borrow::CowStr;
 
 /// Replaces the matches of a pattern.
 #[derive(Clone, Copy)]
-pub struct Rewrite<'r> {
+pub(crate) struct Rewrite<'r> {
     alloc: Global,
-    regex: &'r Regex,
+    pattern: &'r Pattern,
     by: Replacement<'r>,
 }
 
@@ -52,7 +54,7 @@ fn by_text<'t>(
 fn push_step(
     to: &mut Vec<u8>,
     step: Step<'_>,
-    captures: &Captures<'_, &[u8]>,
+    captures: &Captures<'_, Content<'_>>,
 ) -> Result<(), AllocError> {
     let group = match step {
         Step::Literal(c) => {
@@ -77,18 +79,27 @@ fn push_step(
 
 impl<'r> Rewrite<'r> {
     /// Replaces the matches of the pattern. A template that names no group of it is refused.
-    pub fn new(alloc: Global, regex: &'r Regex, by: Replacement<'r>) -> Result<Rewrite<'r>, Error> {
+    pub(crate) fn new(
+        alloc: Global,
+        pattern: &'r Pattern,
+        by: Replacement<'r>,
+    ) -> Result<Rewrite<'r>, Error> {
         if !by.literal {
-            Expander::default().check(by.with, regex)?;
+            Expander::default().check(by.with, &pattern.regex)?;
         }
-        Ok(Rewrite { alloc, regex, by })
+        Ok(Rewrite { alloc, pattern, by })
+    }
+
+    /// The bytes all of which each line with a match has, where lines are passed over.
+    pub(crate) fn required(&self) -> Option<&'r ByteSet> {
+        self.pattern.required.as_ref()
     }
 
     /// Appends what replaces a match in bytes.
     fn push_replacement(
         &self,
         to: &mut Vec<u8>,
-        captures: &Captures<'_, &[u8]>,
+        captures: &Captures<'_, Content<'_>>,
     ) -> Result<(), AllocError> {
         if self.by.literal {
             return to.extend_from_slice(self.by.with.as_bytes());
@@ -105,7 +116,7 @@ impl<'r> Rewrite<'r> {
         to: &mut Vec<u8>,
         bytes: &[u8],
         at: usize,
-        captures: &Captures<'_, &[u8]>,
+        captures: &Captures<'_, Content<'_>>,
     ) -> Result<usize, AllocError> {
         let Some(found) = captures.get(0) else {
             return Ok(at);
@@ -116,11 +127,11 @@ impl<'r> Rewrite<'r> {
     }
 
     /// Bytes that are no text with their matches replaced; none where nothing matches.
-    fn bytes(&self, bytes: &[u8]) -> Result<Option<Vec<u8>>, Fault> {
+    fn bytes(&self, search: Search<'_>, bytes: &[u8]) -> Result<Option<Vec<u8>>, Fault> {
         let mut to = Vec::new(self.alloc);
         let mut at = 0;
         let mut count = 0usize;
-        for captures in self.regex.captures_iter(bytes) {
+        for captures in search.captures() {
             at = self.push_match(&mut to, bytes, at, &captures?)?;
             count = count.saturating_add(1);
             if count == self.by.limit {
@@ -131,18 +142,17 @@ impl<'r> Rewrite<'r> {
         Ok((count > 0).then_some(to))
     }
 
-    /// The bytes with their matches replaced; none where nothing matches.
-    pub(crate) fn rewrite(&self, bytes: &[u8]) -> Result<Option<Vec<u8>>, Fault> {
-        let Ok(text) = std::str::from_utf8(bytes) else {
-            return self.bytes(bytes);
+    /// The content with its matches replaced; none where nothing matches.
+    pub(crate) fn rewrite(&self, content: Content<'_>) -> Result<Option<Vec<u8>>, Fault> {
+        let search = self.pattern.search(content);
+        let text = match search.content {
+            Content::Text(text) => text,
+            Content::Bytes(bytes) => return self.bytes(search, bytes),
         };
-        if !self.regex.can_search(&RegexInput::new(text)) {
-            return self.bytes(bytes);
-        }
         let replaced = if self.by.literal {
-            by_text(self.regex, text, self.by.limit, NoExpand(self.by.with))?
+            by_text(search.regex, text, self.by.limit, NoExpand(self.by.with))?
         } else {
-            by_template(self.regex, text, self.by.limit, self.by.with)?
+            by_template(search.regex, text, self.by.limit, self.by.with)?
         };
         match replaced {
             CowStr::Borrowed(_) => Ok(None),

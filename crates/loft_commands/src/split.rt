@@ -1,13 +1,13 @@
 //! The pieces between matches.
 
-use fancy_regex::Regex;
+use crate::patterns::Pattern;
 use loft_texts::{Fault, Text, TextWork};
 use std::io::{self, Write};
 
 /// Splits texts at matches.
 #[derive(Drop)]
-pub struct Split<'r> {
-    regex: &'r Regex,
+pub(crate) struct Split<'r> {
+    pattern: &'r Pattern,
     /// What ends each piece.
     terminator: u8,
     found: bool,
@@ -15,9 +15,9 @@ pub struct Split<'r> {
 
 impl<'r> Split<'r> {
     /// Splits at the matches of this pattern.
-    pub fn new(regex: &'r Regex, terminator: u8) -> Split<'r> {
+    pub(crate) fn new(pattern: &'r Pattern, terminator: u8) -> Split<'r> {
         Split {
-            regex,
+            pattern,
             terminator,
             found: false,
         }
@@ -32,11 +32,11 @@ impl Split<'_> {
     }
 
     /// Writes the pieces before the last match. Where that ends.
-    fn write_pieces<W: Write>(&self, text: &[u8], out: &mut W) -> Result<usize, Fault> {
+    fn write_pieces<W: Write>(&self, text: &Text<'_>, out: &mut W) -> Result<usize, Fault> {
         let mut at = 0;
-        for found in self.regex.find_iter(text) {
+        for found in self.pattern.search(text.content).matches() {
             let found = found?;
-            self.write_piece(text.get(at..found.start()).unwrap_or(b""), out)?;
+            self.write_piece(text.bytes().get(at..found.start()).unwrap_or(b""), out)?;
             at = found.end();
         }
         Ok(at)
@@ -45,9 +45,9 @@ impl Split<'_> {
 
 impl TextWork for Split<'_> {
     fn text<W: Write>(&mut self, text: &Text<'_>, out: &mut W) -> Result<(), Fault> {
-        let at = self.write_pieces(text.bytes, out)?;
+        let at = self.write_pieces(text, out)?;
         self.found = true;
-        self.write_piece(text.bytes.get(at..).unwrap_or(b""), out)?;
+        self.write_piece(text.bytes().get(at..).unwrap_or(b""), out)?;
         Ok(())
     }
 

@@ -1,64 +1,42 @@
 //! The words of a command line, as `clap` takes them.
 
+use crate::words::{
+    ABOUT, COMMANDS, Choice, Described, PATTERN_OPTIONS, STATUS, VERSION, Value, WHENS,
+};
 use clap::builder::ValueParser;
 use clap::{Arg, ArgAction, Command};
-use loft_words::{
-    ABOUT, COMMANDS, Described, Flag, PATTERN_FLAGS, PATTERN_OPTIONS, STATUS, VERSION, Valued,
-    WHENS,
-};
 use std::alloc::{AllocError, Global};
 
-fn flag_arg<'w>(alloc: Global, flag: &'static Flag) -> Arg<'w> {
-    let arg = Arg::new(alloc, flag.name)
-        .long(flag.name)
-        .help(flag.help)
-        .action(ArgAction::SetTrue);
-    match flag.letter {
-        Some(letter) => arg.short(letter),
-        None => arg,
-    }
-}
-
-fn valued_arg<'w>(alloc: Global, option: &'static Valued) -> Arg<'w> {
+/// An option of a command.
+fn option_arg<'w>(alloc: Global, option: &'static Choice) -> Arg<'w> {
     let arg = Arg::new(alloc, option.name)
         .long(option.name)
-        .value_name(option.value)
-        .help(option.help)
-        .action(ArgAction::Set);
-    let arg = match option.value {
-        "N" => arg.value_parser(ValueParser::Unsigned(0, u64::MAX)),
-        "WHEN" => arg.value_parser(ValueParser::Names(&WHENS)),
-        "RULES" => arg.required(true),
-        _ => arg,
-    };
-    match option.letter {
+        .help(option.help);
+    let arg = match option.letter {
         Some(letter) => arg.short(letter),
         None => arg,
+    };
+    if let Value::Nothing = option.value {
+        return arg.action(ArgAction::SetTrue);
     }
-}
-
-/// The command with these flags.
-fn with_flags<'w>(
-    alloc: Global,
-    command: Command<'w>,
-    flags: &'static [Flag],
-) -> Result<Command<'w>, AllocError> {
-    let mut command = command;
-    for flag in flags {
-        command = command.arg(flag_arg(alloc, flag))?;
+    let arg = arg.value_name(option.value.name()).action(ArgAction::Set);
+    match option.value {
+        Value::Number => arg.value_parser(ValueParser::Unsigned(0, u64::MAX)),
+        Value::When => arg.value_parser(ValueParser::Names(&WHENS)),
+        Value::Rules => arg.required(true),
+        Value::Nothing => arg,
     }
-    Ok(command)
 }
 
 /// The command with these options.
 fn with_options<'w>(
     alloc: Global,
     command: Command<'w>,
-    options: &'static [Valued],
+    options: &'static [Choice],
 ) -> Result<Command<'w>, AllocError> {
     let mut command = command;
     for option in options {
-        command = command.arg(valued_arg(alloc, option))?;
+        command = command.arg(option_arg(alloc, option))?;
     }
     Ok(command)
 }
@@ -88,9 +66,7 @@ fn command<'w>(alloc: Global, described: &'static Described) -> Result<Command<'
         .about(described.about)
         .after_help(described.examples);
     let command = with_words(alloc, command, described)?;
-    let command = with_flags(alloc, command, described.flags)?;
     let command = with_options(alloc, command, described.options)?;
-    let command = with_flags(alloc, command, &PATTERN_FLAGS)?;
     with_options(alloc, command, &PATTERN_OPTIONS)
 }
 

@@ -1,13 +1,13 @@
 //! Where the rules of a list match.
 
+use crate::search::Search;
 use fancy_regex::Regex;
-use loft_lists::{Rule, Severity};
-use loft_texts::{Fault, Text, TextWork};
+use loft_texts::{Fault, Rule, Severity, Text, TextWork};
 use std::io::Write;
 
 /// Checks texts by rules.
 #[derive(Drop)]
-pub struct Check<'r> {
+pub(crate) struct Check<'r> {
     rules: &'r [Rule],
     /// The patterns of the rules, in their order.
     patterns: &'r [Regex],
@@ -17,7 +17,7 @@ pub struct Check<'r> {
 
 impl<'r> Check<'r> {
     /// Checks by these rules, whose patterns are these.
-    pub fn new(rules: &'r [Rule], patterns: &'r [Regex]) -> Check<'r> {
+    pub(crate) fn new(rules: &'r [Rule], patterns: &'r [Regex]) -> Check<'r> {
         Check {
             rules,
             patterns,
@@ -34,7 +34,7 @@ fn write_matches<W: Write>(
     out: &mut W,
 ) -> Result<bool, Fault> {
     let mut any = false;
-    for found in pattern.find_iter(text.bytes) {
+    for found in Search::new(pattern, text.content).matches() {
         let place = text.place(found?.start());
         let (line, column) = (place.line, place.column);
         writeln!(
@@ -50,7 +50,9 @@ fn write_matches<W: Write>(
 impl TextWork for Check<'_> {
     fn text<W: Write>(&mut self, text: &Text<'_>, out: &mut W) -> Result<(), Fault> {
         for (rule, pattern) in self.rules.iter().zip(self.patterns) {
-            if write_matches(rule, pattern, text, out)? && rule.severity == Severity::Error {
+            if write_matches(rule, pattern, text, out)?
+                && matches!(rule.severity, Severity::Error)
+            {
                 self.failed = true;
             }
         }

@@ -1,15 +1,17 @@
 //! Texts that match, and their matches.
 
 use crate::json::write_json;
-use fancy_regex::{Captures, MatchBytes, Regex};
-use loft_texts::{Colour, Fault, Text, TextWork, write_painted};
+use crate::patterns::Pattern;
+use fancy_regex::{ByteSet, Captures, MatchBytes};
+use loft_texts::{Colour, Content, Fault, Text, TextWork, write_painted};
 use loft_words::Report;
+use memchr::{memchr, memrchr};
 use std::io::{self, Write};
 
 /// Finds texts that match.
 #[derive(Drop)]
-pub struct Find<'r> {
-    regex: &'r Regex,
+pub(crate) struct Find<'r> {
+    pattern: &'r Pattern,
     report: Report,
     colours: bool,
     found: bool,
@@ -24,12 +26,18 @@ fn part(text: &[u8], start: usize, end: usize) -> &[u8] {
 
 /// What stands after the last line feed.
 fn last_line(text: &[u8]) -> &[u8] {
-    text.rsplit(|byte| *byte == b'\n').next().unwrap_or(b"")
+    match memrchr(b'\n', text) {
+        Some(feed) => &text[feed + 1..],
+        None => text,
+    }
 }
 
 /// What stands before the first line feed.
 fn first_line(text: &[u8]) -> &[u8] {
-    text.split(|byte| *byte == b'\n').next().unwrap_or(b"")
+    match memchr(b'\n', text) {
+        Some(feed) => &text[..feed],
+        None => text,
+    }
 }
 
 /// Writes a text from a place on up to the end of a match, which is in colour. Where that is.
@@ -40,15 +48,15 @@ fn write_up_to<W: Write>(
     out: &mut W,
 ) -> io::Result<usize> {
     out.write_all(part(text, at, found.start()))?;
-    write_painted(true, Colour::Match, found.as_bytes(), out)?;
+    write_painted(true, Colour::MATCH, found.as_bytes(), out)?;
     Ok(found.end())
 }
 
 impl<'r> Find<'r> {
     /// Finds by this pattern.
-    pub fn new(regex: &'r Regex, report: Report, colours: bool) -> Find<'r> {
+    pub(crate) fn new(pattern: &'r Pattern, report: Report, colours: bool) -> Find<'r> {
         Find {
-            regex,
+            pattern,
             report,
             colours,
             found: false,
@@ -59,7 +67,7 @@ impl<'r> Find<'r> {
     /// Writes the file's name, the line and the column of a byte of the text.
     fn write_place<W: Write>(&self, text: &Text<'_>, at: usize, out: &mut W) -> Result<(), Fault> {
         let place = text.place(at);
-        write_painted(self.colours, Colour::File, text.file.as_bytes(), out)?;
+        write_painted(self.colours, Colour::FILE, text.file.as_bytes(), out)?;
         write!(out, ":{}:{}:", place.line, place.column)?;
         Ok(())
     }
@@ -73,27 +81,27 @@ impl<'r> Find<'r> {
     ) -> Result<(), Fault> {
         self.write_place(text, first.start(), out)?;
         let at = if self.colours {
-            self.write_coloured(text.bytes, out)?
+            self.write_coloured(text, out)?
         } else {
             0
         };
-        out.write_all(part(text.bytes, at, text.bytes.len()))?;
+        out.write_all(part(text.bytes(), at, text.bytes().len()))?;
         out.write_all(b"\n")?;
         Ok(())
     }
 
     /// Writes a text up to the end of its last match, its matches in colour. Where that is.
-    fn write_coloured<W: Write>(&self, text: &[u8], out: &mut W) -> Result<usize, Fault> {
+    fn write_coloured<W: Write>(&self, text: &Text<'_>, out: &mut W) -> Result<usize, Fault> {
         let mut at = 0;
-        for found in self.regex.find_iter(text) {
-            at = write_up_to(text, at, found?, out)?;
+        for found in self.pattern.search(text.content).matches() {
+            at = write_up_to(text.bytes(), at, found?, out)?;
         }
         Ok(at)
     }
 
     /// Writes each match of the text: alone, or of a whole file with its place and its lines.
     fn write_matches<W: Write>(&self, text: &Text<'_>, out: &mut W) -> Result<(), Fault> {
-        for found in self.regex.find_iter(text.bytes) {
+        for found in self.pattern.search(text.content).matches() {
             self.write_match(text, found?, out)?;
         }
         Ok(())
@@ -106,10 +114,10 @@ impl<'r> Find<'r> {
         found: MatchBytes<'_>,
         out: &mut W,
     ) -> Result<(), Fault> {
-        if self.report == Report::Lines {
+        if let Report::Lines = self.report {
             return self.write_part(text, found, out);
         }
-        write_painted(self.colours, Colour::Match, found.as_bytes(), out)?;
+        write_painted(self.colours, Colour::MATCH, found.as_bytes(), out)?;
         out.write_all(b"\n")?;
         Ok(())
     }
@@ -122,16 +130,16 @@ impl<'r> Find<'r> {
         out: &mut W,
     ) -> Result<(), Fault> {
         self.write_place(text, found.start(), out)?;
-        out.write_all(last_line(part(text.bytes, 0, found.start())))?;
-        write_painted(self.colours, Colour::Match, found.as_bytes(), out)?;
-        out.write_all(first_line(part(text.bytes, found.end(), text.bytes.len())))?;
+        out.write_all(last_line(part(text.bytes(), 0, found.start())))?;
+        write_painted(self.colours, Colour::MATCH, found.as_bytes(), out)?;
+        out.write_all(first_line(part(text.bytes(), found.end(), text.bytes().len())))?;
         out.write_all(b"\n")?;
         Ok(())
     }
 
     /// Writes each match of the text with its groups.
     fn write_groups<W: Write>(&self, text: &Text<'_>, out: &mut W) -> Result<(), Fault> {
-        for captures in self.regex.captures_iter(text.bytes) {
+        for captures in self.pattern.search(text.content).captures() {
             self.write_captures(text, &captures?, out)?;
         }
         Ok(())
@@ -141,12 +149,11 @@ impl<'r> Find<'r> {
     fn write_captures<W: Write>(
         &self,
         text: &Text<'_>,
-        captures: &Captures<'_, &[u8]>,
+        captures: &Captures<'_, Content<'_>>,
         out: &mut W,
     ) -> Result<(), Fault> {
-        if self.report == Report::Json {
-            let start = captures.get(0).map_or(0, |found| found.start());
-            write_json(text, captures, start, out)?;
+        if let Report::Json = self.report {
+            write_json(text, captures, out)?;
             return Ok(());
         }
         for number in 0..captures.len() {
@@ -167,7 +174,7 @@ impl<'r> Find<'r> {
     ) -> Result<(), Fault> {
         self.write_place(text, group.start(), out)?;
         write!(out, "{number}=")?;
-        write_painted(self.colours, Colour::Match, group.as_bytes(), out)?;
+        write_painted(self.colours, Colour::MATCH, group.as_bytes(), out)?;
         out.write_all(b"\n")?;
         Ok(())
     }
@@ -175,7 +182,7 @@ impl<'r> Find<'r> {
 
 impl TextWork for Find<'_> {
     fn text<W: Write>(&mut self, text: &Text<'_>, out: &mut W) -> Result<(), Fault> {
-        let Some(first) = self.regex.find(text.bytes)? else {
+        let Some(first) = self.pattern.search(text.content).first()? else {
             return Ok(());
         };
         self.found = true;
@@ -188,8 +195,12 @@ impl TextWork for Find<'_> {
         }
     }
 
+    fn required(&self) -> Option<&ByteSet> {
+        self.pattern.required.as_ref()
+    }
+
     fn is_done(&self) -> bool {
-        self.report == Report::Names && self.count > 0
+        matches!(self.report, Report::Names) && self.count > 0
     }
 
     fn end<W: Write>(&mut self, file: &str, out: &mut W) -> Result<(), Fault> {

@@ -1,13 +1,12 @@
 //! The tokens of whole files, by the patterns of a list of rules.
 
 use fancy_regex::{Error, RegexInput, RegexSet, RuntimeError, Token};
-use loft_lists::Rule;
-use loft_texts::{Colour, Fault, Text, TextWork, write_painted};
+use loft_texts::{Colour, Fault, Rule, Text, TextWork, write_painted};
 use std::io::{self, Write};
 
 /// Writes the tokens of texts.
 #[derive(Drop)]
-pub struct Tokens<'r> {
+pub(crate) struct Tokens<'r> {
     /// The rules of the kinds.
     rules: &'r [Rule],
     /// Their patterns, in their order.
@@ -72,7 +71,7 @@ fn next_part(tokens: &mut fancy_regex::Tokens<'_, &[u8]>) -> Result<Option<Part>
 
 impl<'r> Tokens<'r> {
     /// Writes tokens by these rules, whose patterns are those of the set.
-    pub fn new(rules: &'r [Rule], set: &'r RegexSet, highlight: bool) -> Tokens<'r> {
+    pub(crate) fn new(rules: &'r [Rule], set: &'r RegexSet, highlight: bool) -> Tokens<'r> {
         Tokens {
             rules,
             set,
@@ -91,10 +90,10 @@ impl<'r> Tokens<'r> {
 
     /// Writes a part of the text.
     fn write_part<W: Write>(&self, text: &Text<'_>, part: Part, out: &mut W) -> Result<(), Fault> {
-        let bytes = text.bytes.get(part.start..part.end).unwrap_or(b"");
+        let bytes = text.bytes().get(part.start..part.end).unwrap_or(b"");
         if self.highlight {
             match part.kind {
-                Some(kind) => write_painted(true, Colour::Kind(kind), bytes, out)?,
+                Some(kind) => write_painted(true, Colour::of_kind(kind), bytes, out)?,
                 None => out.write_all(bytes)?,
             }
             return Ok(());
@@ -120,7 +119,7 @@ impl<'r> Tokens<'r> {
         start: usize,
         out: &mut W,
     ) -> Result<usize, Fault> {
-        let input = RegexInput::new(text.bytes).from_pos(start);
+        let input = RegexInput::new(text.bytes()).from_pos(start);
         let mut tokens = self.set.tokens(input);
         self.write_tokens(text, start, &mut tokens, out)
     }
@@ -134,7 +133,7 @@ impl<'r> Tokens<'r> {
         out: &mut W,
     ) -> Result<usize, Fault> {
         let mut end = start;
-        for _ in start..=text.bytes.len() {
+        for _ in start..=text.bytes().len() {
             let Some(part) = next_part(tokens)? else {
                 return Ok(end);
             };
@@ -146,30 +145,30 @@ impl<'r> Tokens<'r> {
 
     /// Whether a token starts at a place.
     fn has_token(&self, text: &Text<'_>, at: usize) -> Result<bool, Fault> {
-        let mut tokens = self.set.tokens(RegexInput::new(text.bytes).from_pos(at));
+        let mut tokens = self.set.tokens(RegexInput::new(text.bytes()).from_pos(at));
         next_part(&mut tokens).map(|part| part.is_some())
     }
 
     /// The next place after one without a token at which one starts; the end, where there is none.
     fn past_unmatched(&self, text: &Text<'_>, start: usize) -> Result<usize, Fault> {
         let mut at = start;
-        for _ in start..text.bytes.len() {
-            at = at.saturating_add(character_width(text.bytes, at));
-            if at >= text.bytes.len() || self.has_token(text, at)? {
-                return Ok(at.min(text.bytes.len()));
+        for _ in start..text.bytes().len() {
+            at = at.saturating_add(character_width(text.bytes(), at));
+            if at >= text.bytes().len() || self.has_token(text, at)? {
+                return Ok(at.min(text.bytes().len()));
             }
         }
-        Ok(text.bytes.len())
+        Ok(text.bytes().len())
     }
 }
 
 impl TextWork for Tokens<'_> {
     fn text<W: Write>(&mut self, text: &Text<'_>, out: &mut W) -> Result<(), Fault> {
         let mut at = 0;
-        for _ in 0..=text.bytes.len() {
+        for _ in 0..=text.bytes().len() {
             let end = self.write_row(text, at, out)?;
             self.found = self.found || end > at;
-            if end >= text.bytes.len() {
+            if end >= text.bytes().len() {
                 return Ok(());
             }
             at = self.past_unmatched(text, end)?;

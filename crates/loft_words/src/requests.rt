@@ -1,10 +1,11 @@
 //! What the words of a command line ask for.
 
-use crate::program::program;
-use clap::{ArgMatches, Error};
-use loft_words::{
+use crate::asked::{
     Colours, Command, PatternOptions, PatternWork, Replacement, Report, RulesWork, Task, Way,
 };
+use crate::program::program;
+use crate::words::{COMMANDS, Verb};
+use clap::{ArgMatches, Error};
 use std::alloc::{AllocError, Global};
 
 /// What the words of a command line ask for.
@@ -37,15 +38,26 @@ fn answer<'w>(alloc: Global, error: &Error) -> Result<Request<'w>, AllocError> {
     })
 }
 
+/// What the command among the words does, and its own words.
+fn subcommand<'m, 'w>(matches: &'m ArgMatches<'w>) -> Option<(Verb, &'m ArgMatches<'w>)> {
+    let (name, matches) = matches.subcommand()?;
+    for described in &COMMANDS {
+        if described.name == name {
+            return Some((described.verb, matches));
+        }
+    }
+    None
+}
+
 /// The command that was met among the words.
 fn read_matches<'w>(alloc: Global, matches: &ArgMatches<'w>) -> Result<Request<'w>, AllocError> {
-    let Some((name, matches)) = matches.subcommand() else {
+    let Some((verb, matches)) = subcommand(matches) else {
         return Ok(Request::Refuse(String::from_str(alloc, "error: a command is wanted\n")?));
     };
     Ok(Request::Do(Command {
-        task: task_of(name, matches),
+        task: task_of(verb, matches),
         options: options_of(matches),
-        whole: matches.get_flag("multiline") || name == "tokens",
+        whole: matches.get_flag("multiline") || matches!(verb, Verb::Tokens),
         files: files_of(alloc, matches)?,
     }))
 }
@@ -67,18 +79,18 @@ fn word_of<'w>(matches: &ArgMatches<'w>, name: &str) -> &'w str {
     matches.get_str(name).unwrap_or("")
 }
 
-/// What the command of a name does.
-fn task_of<'w>(name: &str, matches: &ArgMatches<'w>) -> Task<'w> {
-    match name {
-        "find" => by_pattern(matches, find_of(matches)),
-        "replace" => by_pattern(matches, replace_of(matches)),
-        "split" => by_pattern(matches, split_of(matches)),
-        "explain" => Task::Explain {
+/// What a command does with the words that were met.
+fn task_of<'w>(verb: Verb, matches: &ArgMatches<'w>) -> Task<'w> {
+    match verb {
+        Verb::Find => by_pattern(matches, find_of(matches)),
+        Verb::Replace => by_pattern(matches, replace_of(matches)),
+        Verb::Split => by_pattern(matches, split_of(matches)),
+        Verb::Tokens => by_rules(matches, tokens_of(matches)),
+        Verb::Check => by_rules(matches, RulesWork::Check),
+        Verb::Explain => Task::Explain {
             pattern: word_of(matches, "PATTERN"),
         },
-        "tokens" => by_rules(matches, tokens_of(matches)),
-        "check" => by_rules(matches, RulesWork::Check),
-        _ => Task::Manual,
+        Verb::Manual => Task::Manual,
     }
 }
 

@@ -3,14 +3,14 @@
 use crate::replace::Gather;
 use crate::rewrite::Rewrite;
 use loft_files::{DiskStore, put_in_place};
-use loft_texts::{Console, Fault, Outcome, each_text, is_standard_input};
+use loft_texts::{Console, Fault, Outcome, TextWork, each_text, is_standard_input};
 use std::fs;
 use std::io::{Input, Write};
 use std::rt::Files;
 use std::time::Clock;
 
 /// Rewrites each file in place. One with a fault is named, and the next one is done.
-pub fn replace_in_place<R: Files + Input + Clock + AllocGlobal, W: Write, X: Write>(
+pub(crate) fn replace_in_place<R: Files + Input + Clock + AllocGlobal, W: Write, X: Write>(
     rt: &R,
     files: &[&str],
     rewrite: Rewrite<'_>,
@@ -40,15 +40,11 @@ fn replace_file<R: Files + Input + Clock + AllocGlobal, W: Write, X: Write>(
         return Err(Fault::InPlace);
     }
     let before = fs::metadata(rt, file).map_err(Fault::Input)?;
-    let mut work = Gather {
-        rewrite,
-        bytes: Vec::new(rt.alloc()),
-        found: false,
-    };
+    let mut work = Gather::new(rewrite, Vec::new(rt.alloc()));
     each_text(rt, file, &mut work, console)?;
-    if work.found {
+    if work.found() {
         let mut store = DiskStore::new(rt.alloc(), rt, file, before)?;
         put_in_place(&mut store, &work.bytes).map_err(Fault::Input)?;
     }
-    Ok(work.found)
+    Ok(work.found())
 }

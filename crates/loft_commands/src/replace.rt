@@ -1,19 +1,20 @@
 //! Texts with their matches replaced, to the output and into memory.
 
 use crate::rewrite::Rewrite;
+use fancy_regex::ByteSet;
 use loft_texts::{Fault, Text, TextWork};
 use std::io::Write;
 
 /// Writes texts with their matches replaced.
 #[derive(Drop)]
-pub struct Replace<'r> {
+pub(crate) struct Replace<'r> {
     rewrite: Rewrite<'r>,
     found: bool,
 }
 
 impl<'r> Replace<'r> {
     /// Replaces in this way.
-    pub fn new(rewrite: Rewrite<'r>) -> Replace<'r> {
+    pub(crate) fn new(rewrite: Rewrite<'r>) -> Replace<'r> {
         Replace {
             rewrite,
             found: false,
@@ -23,14 +24,23 @@ impl<'r> Replace<'r> {
 
 impl TextWork for Replace<'_> {
     fn text<W: Write>(&mut self, text: &Text<'_>, out: &mut W) -> Result<(), Fault> {
-        match self.rewrite.rewrite(text.bytes)? {
+        match self.rewrite.rewrite(text.content)? {
             Some(bytes) => {
                 self.found = true;
                 out.write_all(&bytes)?;
             }
-            None => out.write_all(text.bytes)?,
+            None => out.write_all(text.bytes())?,
         }
         out.write_all(text.end)?;
+        Ok(())
+    }
+
+    fn required(&self) -> Option<&ByteSet> {
+        self.rewrite.required()
+    }
+
+    fn pass<W: Write>(&mut self, lines: &[u8], out: &mut W) -> Result<(), Fault> {
+        out.write_all(lines)?;
         Ok(())
     }
 
@@ -42,26 +52,35 @@ impl TextWork for Replace<'_> {
 /// Gathers a file with its matches replaced.
 #[derive(Drop)]
 pub(crate) struct Gather<'r> {
-    pub(crate) rewrite: Rewrite<'r>,
+    replace: Replace<'r>,
     /// What was gathered.
     pub(crate) bytes: Vec<u8>,
-    pub(crate) found: bool,
+}
+
+impl<'r> Gather<'r> {
+    /// Replaces in this way, into this memory.
+    pub(crate) fn new(rewrite: Rewrite<'r>, bytes: Vec<u8>) -> Gather<'r> {
+        Gather {
+            replace: Replace::new(rewrite),
+            bytes,
+        }
+    }
 }
 
 impl TextWork for Gather<'_> {
     fn text<W: Write>(&mut self, text: &Text<'_>, _out: &mut W) -> Result<(), Fault> {
-        match self.rewrite.rewrite(text.bytes)? {
-            Some(bytes) => {
-                self.found = true;
-                self.bytes.extend_from_slice(&bytes)?;
-            }
-            None => self.bytes.extend_from_slice(text.bytes)?,
-        }
-        self.bytes.extend_from_slice(text.end)?;
-        Ok(())
+        self.replace.text(text, &mut self.bytes)
+    }
+
+    fn required(&self) -> Option<&ByteSet> {
+        self.replace.required()
+    }
+
+    fn pass<W: Write>(&mut self, lines: &[u8], _out: &mut W) -> Result<(), Fault> {
+        self.replace.pass(lines, &mut self.bytes)
     }
 
     fn found(&self) -> bool {
-        self.found
+        self.replace.found
     }
 }
