@@ -441,7 +441,7 @@ impl Program {
         }
     }
 
-    /// Whether a text or a byte that the pattern requires was looked for, and does not stand in the haystack: then nothing is found.
+    /// Whether a byte or a text that the pattern requires was looked for, and does not stand in the haystack: then nothing is found.
     #[inline]
     fn is_hopeless(&self, asked: &Asked<'_>, known: &mut KnownBytes) -> bool
         requires known { AreKnown known.old asked.now.haystack.now }
@@ -455,11 +455,11 @@ impl Program {
         if !self.looks_for_required(asked) {
             return false;
         }
-        if self.lacks_text(asked) {
+        let start = asked.request.effective_start();
+        if self.required.are_lacking(asked.haystack, start, known) {
             return true;
         }
-        let start = asked.request.effective_start();
-        self.required.are_lacking(asked.haystack, start, known)
+        self.lacks_text(asked)
     }
 
     /// Whether the text that every match has in it was looked for, and stands nowhere in what is searched. Under `seek`, which is
