@@ -63,7 +63,6 @@ const SHORT_HAYSTACK: usize = 256;
 /// Which engine serves its searches is decided once: the memoised runner an easy pattern, and the backtracking machine a
 /// hard one. An easy pattern whose code an automaton follows, and of whose matches little is told that a scan could go by, is served
 /// by that in a text that is not short.
-#[derive(Drop)]
 pub struct Program {
     options: Options,
     text: String,
@@ -93,6 +92,24 @@ pub struct Program {
     ghost held: { ForSome text_required (λ t. t ≡ required_text (meaning_in options) reading.0) },
     ghost priced: { ArePrices prices code } by { prices_once prices code },
     ghost whole: { keeps_characters options.bytes_mode ≡ true → has_raw_byte reading.0 ≡ false },
+}
+
+/// By hand, so that crates above do not prove it once more.
+impl Drop for Program {
+    fn drop(self) {
+        let Program {
+            options: _,
+            text: _,
+            code: _,
+            names: _,
+            easy: _,
+            plain: _,
+            shortest: _,
+            required: _,
+            text_required: _,
+            prices: _,
+        } = self;
+    }
 }
 
 /// The error that a refusal of an engine is told as.
