@@ -5,6 +5,7 @@ use Rattle.fancy_regex.specs.declared.RegexSet.{RegexSet}
 use Rattle.fancy_regex.specs.declared.Request.{Request as Asked}
 use Rattle.fancy_regex.specs.Regexes.{options_in}
 use Rattle.fancy_regex.specs.Searching.{CanSearch}
+use Rattle.fancy_regex.specs.SetMembers.{SetQuery}
 use Rattle.fancy_regex.specs.Sets.{members_of}
 use Rattle.fancy_regex_c.specs.declared.plain.Request.{Request}
 
@@ -23,6 +24,10 @@ asked r = record {
   end_text = not (has_flag r.flags 8);
   continues = not (has_flag r.flags 16);
 }
+
+-- what it asks of the members of a set
+abbrev pub asked_of_set : RegexSet → List ℕ → Request → SetQuery
+asked_of_set set bytes r = record { members = members_of set; haystack = bytes; request = asked r }
 
 -- whether the request says that the haystack is text
 abbrev pub says_text : Request → Bool

@@ -14,5 +14,6 @@ pub mod Replacements
 pub mod Splitting
 pub mod UnderWay
 pub mod SetReading
+pub mod SetFinding
 pub mod TokenGiving
 pub mod Handles

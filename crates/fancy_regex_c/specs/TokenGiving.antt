@@ -3,17 +3,12 @@ use Rattle.std.specs.Prelude.{◌≡◌, ◌≤◌, ◌<◌, ◌++◌, ◌⊎◌
 use Rattle.fancy_regex.specs.declared.Error.{Error}
 use Rattle.fancy_regex.specs.declared.RegexSet.{RegexSet}
 use Rattle.fancy_regex.specs.SetMembers.{SetQuery}
-use Rattle.fancy_regex.specs.Sets.{members_of}
 use Rattle.fancy_regex.specs.TokenLists.{IsUnmatched, IsRefusedByMember}
 use Rattle.fancy_regex.specs.Tokens.{TokenItem, tokens_from}
 use Rattle.fancy_regex_c.specs.declared.plain.Member.{Member}
 use Rattle.fancy_regex_c.specs.declared.plain.Request.{Request}
 use Rattle.fancy_regex_c.specs.Answers.{IsAnswerFor}
-use Rattle.fancy_regex_c.specs.Asked.{asked, IsAsSaid, IsPlaceOfSet}
-
--- what the search asks of the members
-abbrev pub asked_of_set : RegexSet → List ℕ → Request → SetQuery
-asked_of_set set bytes r = record { members = members_of set; haystack = bytes; request = asked r }
+use Rattle.fancy_regex_c.specs.Asked.{asked_of_set, IsAsSaid, IsPlaceOfSet}
 
 -- the token that crosses
 abbrev pub token_of : Member → TokenItem

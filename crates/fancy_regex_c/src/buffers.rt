@@ -1,7 +1,7 @@
 //! Buffers that the caller gives.
 
 ghost use Rattle.std.specs.Prelude.{◌≡◌, ◌+◌, ◌<◌, ◌^◌};
-ghost use Rattle.fancy_regex_c.specs.Buffers.{Puts, PutsNext};
+ghost use Rattle.fancy_regex_c.specs.Buffers.{Puts, PutsNext, done_if};
 
 use crate::answers::{DONE, TOO_SHORT};
 
@@ -15,6 +15,13 @@ pub fn put(bytes: &[u8], buffer: &mut [u8], wanted: &mut usize) -> u32
     }
     buffer[..bytes.len()].copy_from_slice(bytes);
     DONE
+}
+
+/// `DONE` where so many items have room in a buffer, and else `TOO_SHORT`.
+pub fn done_if(wanted: usize, room: usize) -> u32
+    ensures { result ≡ done_if wanted room }
+{
+    if wanted <= room { DONE } else { TOO_SHORT }
 }
 
 /// Puts an item behind those before it, if there is room for it, and counts it.

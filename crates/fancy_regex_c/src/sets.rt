@@ -1,14 +1,19 @@
 //! A set behind a handle: its first matches, and the tokens of a text.
 
-ghost use Rattle.std.specs.Prelude.{◌≡◌, ⊤, IfOk, IfErr, length};
+ghost use Rattle.std.specs.Prelude.{◌≡◌, ◌<◌, ◌^◌, ℕ, Some, IfOk, IfErr, length};
+ghost use Rattle.fancy_regex.specs.SetMatches.{pattern_index, match_span, question_of, position_of, members_to_come};
+ghost use Rattle.fancy_regex.specs.SetMembers.{RefusesMember};
 ghost use Rattle.fancy_regex.specs.Sets.{members_of};
-ghost use Rattle.fancy_regex_c.specs.Asked.{IsPlaceInSet};
+ghost use Rattle.fancy_regex.specs.Spans.{from_to};
+ghost use Rattle.fancy_regex_c.specs.Asked.{asked_of_set, IsPlaceInSet};
 ghost use Rattle.fancy_regex_c.specs.Handed.{handed_bytes, is_handed_text};
 ghost use Rattle.fancy_regex_c.specs.Handles.{IsSame, BySet, HeldSet};
+ghost use Rattle.fancy_regex_c.specs.SetFinding.{PutsMatches, TellsMembers};
 ghost use Rattle.fancy_regex_c.specs.SetReading.{part, AreRead, IsSetFault, IsSetToldBy};
-ghost use Rattle.fancy_regex_c.specs.TokenGiving.{asked_of_set, TellsTokensIn, TellsTokens};
+ghost use Rattle.fancy_regex_c.specs.TokenGiving.{TellsTokensIn, TellsTokens};
 
-use crate::answers::{DONE, NO_HANDLE, NO_MEMORY, NONE, TOO_SHORT, answer_of};
+use crate::answers::{DONE, NO_HANDLE, NO_MEMORY, NONE, answer_of};
+use crate::buffers::{done_if, put_next};
 use crate::handed::Handed;
 use crate::handle::{Handle, Kept};
 use crate::plain::{Fault, Member, Options, Request};
@@ -118,7 +123,10 @@ pub extern "C" fn fancy_regex_set_len(alloc: Global, set: &mut Handle) -> usize
     count
 }
 
-fn member_of(found: &RegexSetMatch<'_, Handed<'_>>) -> Member {
+fn member_of(found: &RegexSetMatch<'_, Handed<'_>>) -> Member
+    ensures pattern { result.pattern ≡ pattern_index found.now }
+    ensures span { match_span found.now ≡ Some (from_to result.start result.end) }
+{
     Member {
         pattern: found.pattern(),
         start: found.start(),
@@ -131,13 +139,20 @@ fn put_members(
     matches: RegexSetMatchesAt<'_, Handed<'_>>,
     members: &mut [Member],
     wanted: &mut usize,
-) -> Result<()> {
+) -> Result<()>
+    requires start { wanted.old ≡ 0 }
+    ensures put { IfOk result (λ _. PutsMatches (question_of handed_bytes matches.entry)
+        (position_of matches.entry) (members_to_come handed_bytes matches.entry)
+        members.old members.new wanted.new) }
+    ensures refused { IfErr result (λ e. (k : ℕ) × RefusesMember
+        (question_of handed_bytes matches.entry) (position_of matches.entry) k e) }
+{
+    let patterns = matches.regex_set().len();
     for found in matches {
         let found = found?;
-        if *wanted < members.len() {
-            members[*wanted] = member_of(&found);
-        }
-        *wanted = wanted.saturating_add(1);
+        let pattern = found.pattern();
+        prove!(pattern < patterns);
+        put_next(member_of(&found), members, wanted);
     }
     Ok(())
 }
@@ -148,7 +163,9 @@ fn set_find_in(
     request: Request,
     members: &mut [Member],
     wanted: &mut usize,
-) -> u32 {
+) -> u32
+    ensures { TellsMembers set.now haystack.now request members.old members.new wanted.new result }
+{
     *wanted = 0;
     let input = match Handed::input_for_set(set, haystack, request) {
         Ok(input) => input,
@@ -160,13 +177,16 @@ fn set_find_in(
         Err(error) => return answer_of(error),
     };
     match put_members(matches, members, wanted) {
-        Ok(()) if *wanted <= members.len() => DONE,
-        Ok(()) => TOO_SHORT,
+        Ok(()) => done_if(*wanted, members.len()),
         Err(error) => answer_of(error),
     }
 }
 
-/// The matches at the least position at which a pattern of the set matches, in the order of the patterns.
+/// The matches at the least position at which a pattern of the set matches, in the order of the patterns, as many as there is room for.
+/// It tells how many there are.
+///
+/// `TOO_SHORT` where there is not room for all. `NONE` where there is no such position. The other answers are those of
+/// [`crate::regexes::fancy_regex_is_match`]. `NO_HANDLE` where the handle holds no set.
 #[unsafe(no_mangle)]
 pub extern "C" fn fancy_regex_set_find(
     alloc: Global,
@@ -177,20 +197,36 @@ pub extern "C" fn fancy_regex_set_find(
     wanted: &mut usize,
 ) -> u32
     ensures kept { IsSame set.new set.old }
-    ensures answer { HeldSet set.old (λ _. ⊤) (result ≡ 5) }
+    ensures answer { HeldSet set.old
+        (λ s. TellsMembers s haystack.now request.now members.old members.new wanted.new result)
+        ((result ≡ 5) × (members.new ≡ members.old) × (wanted.new ≡ wanted.old)) }
 {
     let Some(kept) = set.take(alloc) else {
         return NO_HANDLE;
     };
-    let answer = match &*kept {
-        Kept::Set(set) => set_find_in(set, haystack, *request, members, wanted),
-        _ => NO_HANDLE,
-    };
+    let answer = kept.set_find(haystack, *request, members, wanted);
     *set = Handle::of(kept);
     answer
 }
 
 impl Kept {
+    fn set_find(
+        &self,
+        haystack: &[u8],
+        request: Request,
+        members: &mut [Member],
+        wanted: &mut usize,
+    ) -> u32
+        ensures { BySet self.now
+            (λ s. TellsMembers s haystack.now request members.old members.new wanted.new result)
+            ((result ≡ 5) × (members.new ≡ members.old) × (wanted.new ≡ wanted.old)) }
+    {
+        match self {
+            Kept::Set(set) => set_find_in(set, haystack, request, members, wanted),
+            _ => NO_HANDLE,
+        }
+    }
+
     fn tokens(
         &self,
         haystack: &[u8],

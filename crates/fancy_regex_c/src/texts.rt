@@ -12,8 +12,8 @@ ghost use Rattle.fancy_regex_c.specs.Replacements.{text_with, TellsReplaced};
 ghost use Rattle.fancy_regex_c.specs.Splitting.{pieces_of, RefusesOneOf, TellsPieces};
 ghost use Rattle.fancy_regex_c.specs.Texts.{TellsEscaped};
 
-use crate::answers::{DONE, NO_HANDLE, NO_MEMORY, NO_PLACE, NONE, NOT_TEXT, TOO_SHORT, answer_of};
-use crate::buffers::{put, put_next};
+use crate::answers::{NO_HANDLE, NO_MEMORY, NO_PLACE, NONE, NOT_TEXT, answer_of};
+use crate::buffers::{done_if, put, put_next};
 use crate::handle::{Handle, Kept};
 use crate::plain::Span;
 use fancy_regex::{NoExpand, Regex, RegexInput, Result, escape};
@@ -176,8 +176,7 @@ fn split_in(
         return NO_PLACE;
     }
     match cut(regex, text, limit, pieces, wanted) {
-        Ok(()) if *wanted <= pieces.len() => DONE,
-        Ok(()) => TOO_SHORT,
+        Ok(()) => done_if(*wanted, pieces.len()),
         Err(error) => {
             *wanted = 0;
             answer_of(error)

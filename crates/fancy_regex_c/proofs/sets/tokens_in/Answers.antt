@@ -1,4 +1,4 @@
-use Rattle.std.proofs.Common.{◌≡◌, ◌∙◌, ◌<◌, ◌≤◌, ◌∷◌, [], ◌++◌, List, ℕ, length, refl, sym, ap, arith, inl, inr}
+use Rattle.std.proofs.Common.{◌≡◌, ◌∙◌, ◌<◌, ◌≤◌, ◌∷◌, [], ◌++◌, List, refl, sym, ap, arith, inl, inr}
 use Rattle.std.proofs.Math.Nat.{max-zero}
 use Rattle.fancy_regex.specs.declared.Request.{Request as Asked}
 use Rattle.fancy_regex.specs.Requests.{effective_start}
@@ -7,7 +7,8 @@ use Rattle.fancy_regex.specs.TokenLists.{token_query, token_pattern, token_place
 use Rattle.fancy_regex.specs.Tokens.{TokenItem, tokens_from}
 use Rattle.fancy_regex_c.specs.declared.plain.Member.{Member}
 use Rattle.fancy_regex_c.specs.Handed.{handed_bytes}
-use Rattle.fancy_regex_c.specs.TokenGiving.{asked_of_set, token_of, is_given, is_full, is_ended, is_refused, RefusesTokenAt}
+use Rattle.fancy_regex_c.specs.Asked.{asked_of_set}
+use Rattle.fancy_regex_c.specs.TokenGiving.{token_of, is_given, is_full, is_ended, is_refused}
 use Rattle.fancy_regex_c.proofs.TokenLemmas.{asks_same, left_is, length_more, gives_none, gives_token}
 use Rattle.fancy_regex_c.proofs.sets.tokens_in.Goals as goal
 

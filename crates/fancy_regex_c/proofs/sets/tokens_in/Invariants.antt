@@ -1,8 +1,9 @@
-use Rattle.std.proofs.Common.{◌≡◌, ◌++◌, List, false, length, map, drop}
+use Rattle.std.proofs.Common.{◌≡◌, List, false, length}
 use Rattle.fancy_regex.specs.TokenLists.{token_query, token_place, has_ended_tokens}
 use Rattle.fancy_regex_c.specs.declared.plain.Member.{Member}
 use Rattle.fancy_regex_c.specs.Handed.{handed_bytes}
-use Rattle.fancy_regex_c.specs.TokenGiving.{asked_of_set, GivesTokens}
+use Rattle.fancy_regex_c.specs.Asked.{asked_of_set}
+use Rattle.fancy_regex_c.specs.TokenGiving.{GivesTokens}
 use Rattle.fancy_regex_c.proofs.sets.tokens_in.Given as goal
 
 abbrev pub invariant-loop-index : goal.invariant-loop-index
