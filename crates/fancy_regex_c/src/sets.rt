@@ -1,6 +1,6 @@
 //! A set behind a handle: its first matches, and the tokens of a text.
 
-ghost use Rattle.std.specs.Prelude.{◌≡◌, ◌<◌, ◌^◌, ℕ, Some, IfOk, IfErr, length};
+ghost use Rattle.std.specs.Prelude.{◌≡◌, ℕ, Some, IfOk, IfErr, length};
 ghost use Rattle.fancy_regex.specs.SetMatches.{pattern_index, match_span, question_of, position_of, members_to_come};
 ghost use Rattle.fancy_regex.specs.SetMembers.{RefusesMember};
 ghost use Rattle.fancy_regex.specs.Sets.{members_of};
