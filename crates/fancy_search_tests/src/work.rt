@@ -370,7 +370,7 @@ const NOT_CROWDED: &[CountRow] = &[
 /// `(?<=ab)c` is not tried. The items that a loop reads together count too, and those of the run that was read last are not read again.
 const WORKS: &[WorkRow] = &[
     (CHARACTERS, "a|ab", "xab", Some((1, 2)), 0),
-    (CHARACTERS, "(?:a|b|ab)*bc", "abababac", None, 0),
+    (CHARACTERS, "(?:a|b|ab)*b[cd]", "abababac", None, 0),
     (CHARACTERS, "(?:(a)|b)*c", "ababc", Some((0, 5)), 0),
     (CHARACTERS, "(?<=ab)[a-c]", "abc", Some((2, 3)), 4),
     (CHARACTERS, "(?<=ab)c", "abc", Some((2, 3)), 2),
