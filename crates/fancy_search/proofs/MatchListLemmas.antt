@@ -141,5 +141,13 @@ pub matches_count : (k : Scan) (s : ℕ) → Sound k → max s k.floor + length 
 unfolding items_from answer
 matches_count k s h = chain_count (suc k.last) k (max s k.floor) (answer k s true) h (answer_from k s true h (k.find s true) refl)
 
-pub few_matches : (k : Scan) (s : ℕ) → Sound k → length (matches k s) ≤ suc k.last
-few_matches k s h = let c : max s k.floor + length (matches k s) ≤ max (max s k.floor) (suc k.last) = matches_count k s h in omega arith
+-- there are at most n
+chain_length : (n : ℕ) (k : Scan) (o : Option MatchItem) → length (chain n k o) ≤ n
+chain_length n k None = omega arith
+chain_length zero k (Some i) = omega arith
+chain_length (suc n) k (Some i) = let rest : length (chain n k (next_after k i)) ≤ n = chain_length n k (next_after k i) in omega (arith, rest)
+
+-- an item and those after it are at most as many as there are places up to the last
+pub few_items : (k : Scan) (o : Option MatchItem) → length (items_from k o) ≤ suc k.last
+unfolding items_from
+few_items k o = chain_length (suc k.last) k o

@@ -31,6 +31,27 @@ pub struct FoundItem {
     pub continues: bool,
 }
 
+/// How an iteration goes on from where its next search starts.
+#[derive(Clone, Copy)]
+pub struct Onward {
+    /// Whether `\G` holds there. It does not after an empty match that was found where its search started.
+    pub continues: bool,
+    /// Whether an empty match there is passed over, since the match before ends there and is not empty.
+    pub skips_empty: bool,
+}
+
+impl Onward {
+    /// How one goes on that has found nothing yet.
+    pub fn first() -> Onward
+        ensures { result ≡ record { continues = true; skips_empty = false } }
+    {
+        Onward {
+            continues: true,
+            skips_empty: false,
+        }
+    }
+}
+
 /// An iteration over the matches of an input.
 ///
 /// The next search starts at the end of the last match. After an empty match it starts at the place after it, and an
@@ -70,17 +91,41 @@ impl<S: Input> Searcher<S> {
         ensures kept { result.kept ≡ Kept.Nothing }
         ensures keeps { (program : Program) (cache : Cache) → Keeps S.bytes program result cache }
     {
+        Searcher::resume(input, Onward::first())
+    }
+
+    /// The iteration of `input` as one goes on that came so far.
+    pub fn resume(input: RegexInput<S>, onward: Onward) -> Searcher<S>
+        ensures haystack { result.haystack ≡ haystack_in input }
+        ensures request { result.request ≡ request_in input }
+        ensures continues { result.continues ≡ onward.continues }
+        ensures skips_empty { result.skips_empty ≡ onward.skips_empty }
+        ensures ended { result.ended ≡ false }
+        ensures kept { result.kept ≡ Kept.Nothing }
+        ensures keeps { (program : Program) (cache : Cache) → Keeps S.bytes program result cache }
+    {
         let haystack = input.haystack();
         // a slice is shorter than 2^63 bytes
         let _bytes = haystack.as_bytes();
         Searcher {
             haystack,
             request: input.request(),
-            continues: true,
-            skips_empty: false,
+            continues: onward.continues,
+            skips_empty: onward.skips_empty,
             ended: false,
             kept: Kept::Nothing,
             known: KnownBytes::new(),
+        }
+    }
+
+    /// How it goes on from where the next search starts.
+    pub fn onward(&self) -> Onward
+        ensures continues { result.continues ≡ self.now.continues }
+        ensures skips_empty { result.skips_empty ≡ self.now.skips_empty }
+    {
+        Onward {
+            continues: self.continues,
+            skips_empty: self.skips_empty,
         }
     }
 
