@@ -73,25 +73,12 @@ easy_code (j ∷ code) e zero = easy_one j (and_parts (is_easy_instr j) (are_eas
 easy_code (j ∷ code) e (suc q) = easy_code code (and_parts (is_easy_instr j) (are_easy code) e).1 q
 
 -- the parts of an easy pattern are easy
-easy-in_sequence : (ps : List Pattern) → is_easy (in_sequence ps) ≡ true → All (λ p. IsTrue (is_easy p)) ps
+pub easy-in_sequence : (ps : List Pattern) → is_easy (in_sequence ps) ≡ true → All (λ p. IsTrue (is_easy p)) ps
 easy-in_sequence [] e = λ k d h. absurd (omega arith)
 easy-in_sequence (p ∷ []) e = All-cons (λ x. IsTrue (is_easy x)) p [] e (λ k d h. absurd (omega arith))
 easy-in_sequence (p ∷ q ∷ ps) e =
     let parts = and_parts (is_easy p) (is_easy (in_sequence (q ∷ ps))) e in
     All-cons (λ x. IsTrue (is_easy x)) p (q ∷ ps) parts.0 (easy-in_sequence (q ∷ ps) parts.1)
-
-easy-in_choice : (ps : List Pattern) → is_easy (in_choice ps) ≡ true → All (λ p. IsTrue (is_easy p)) ps
-easy-in_choice [] e = λ k d h. absurd (omega arith)
-easy-in_choice (p ∷ []) e = All-cons (λ x. IsTrue (is_easy x)) p [] e (λ k d h. absurd (omega arith))
-easy-in_choice (p ∷ q ∷ ps) e =
-    let parts = and_parts (is_easy p) (is_easy (in_choice (q ∷ ps))) e in
-    All-cons (λ x. IsTrue (is_easy x)) p (q ∷ ps) parts.0 (easy-in_choice (q ∷ ps) parts.1)
-
-pub easy_parts : (t : Tree) (parts : Vec Tree Global) → t ≡ Concat parts → is_easy (pattern_of t) ≡ true → All (λ p. IsTrue (is_easy p)) (map pattern_of parts.items)
-easy_parts t parts e easy = easy-in_sequence (map pattern_of parts.items) (sym (ap is_easy (ap pattern_of e ∙ pattern-Concat parts)) ∙ easy)
-
-pub easy_branches : (t : Tree) (branches : Vec Tree Global) → t ≡ Alternation branches → is_easy (pattern_of t) ≡ true → All (λ p. IsTrue (is_easy p)) (map pattern_of branches.items)
-easy_branches t branches e easy = easy-in_choice (map pattern_of branches.items) (sym (ap is_easy (ap pattern_of e ∙ pattern-Alternation branches)) ∙ easy)
 
 pub easy_at : (ts : List Tree) (j : ℕ) (t : Tree) → All (λ p. IsTrue (is_easy p)) (map pattern_of ts) → j < length ts → t ≡ get_or ts j t → is_easy (pattern_of t) ≡ true
 easy_at ts j t all h e =

@@ -1,22 +1,149 @@
 -- What one more piece of code makes of what was emitted before.
-use Rattle.std.proofs.Common.{◌≡◌, ℕ, ◌+◌, ◌^◌, ◌<◌, ◌≤◌, Bool, true, false, ◌&&◌, List, [], ◌∷◌, length, map, drop, get_or, sum_by, Option, Some, None, Vec, Global, refl, sym, ap, ◌∙◌, subst, arith, add-one}
+use Rattle.std.proofs.Common.{◌≡◌, ℕ, ◌+◌, ◌*◌, ◌^◌, ◌<◌, ◌≤◌, Bool, true, false, ◌&&◌, List, [], ◌∷◌, length, map, drop, get_or, sum_by, Option, Some, None, Vec, Global, refl, sym, ap, ◌∙◌, subst, arith, add-one, true≢false}
 use Rattle.std.specs.Prelude.{slice_set}
+use Rattle.std.proofs.lemmas.Bool.{and_parts}
 use Rattle.std.proofs.lemmas.List.{length-map, get_or-map}
 use Rattle.std.proofs.lemmas.List.Sums.{sum_by-cons, get_or-le-sum_by}
 use Rattle.fancy_bytes.specs.Openings.{opening}
 use Rattle.fancy_tree.specs.declared.tree.Meaning.{Meaning}
+use Rattle.fancy_tree.specs.declared.tree.RepeatKind.TheVariants.{Greedy, Possessive}
 use Rattle.fancy_tree.specs.declared.tree.Tree.{Tree}
 use Rattle.fancy_tree.specs.declared.tree.Tree.TheVariants.{Concat, Alternation}
-use Rattle.fancy_tree.specs.Pattern.{Pattern, group, or_else, last_branch, look_ahead, look_behind, conditional, in_sequence, in_choice, pattern_of}
-use Rattle.fancy_tree.specs.Sizes.{nodes, size, is_empty}
+use Rattle.fancy_tree.specs.Pattern.{Pattern, group, repeat, or_else, last_branch, look_ahead, look_behind, atomic, conditional, in_sequence, in_choice, pattern_of}
+use Rattle.fancy_tree.specs.Sizes.{nodes, repeat_nodes, size, is_empty}
 use Rattle.fancy_tree.proofs.PatternLemmas.{pattern-Concat, pattern-Alternation}
 use Rattle.fancy_tree.proofs.PartLemmas.{parts_from}
-use Rattle.fancy_tree.proofs.SizeLemmas.{nodes-in_sequence, nodes-in_choice}
+use Rattle.fancy_tree.proofs.SizeLemmas.{nodes-pos, nodes-in_sequence, nodes-in_choice}
 use Rattle.fancy_code.specs.Instructions.{Instruction}
 use Rattle.fancy_code.specs.Instructions as i
 use Rattle.fancy_code.specs.declared.code.Entry.{Entry}
-use Rattle.fancy_code.specs.Compile.{Has, HasBoth, Extends, Keeps, Means, Emitted, CopiesBy, CopiesEmitted, OptionalsBy, OptionalsEmitted, StarEmitted, RestEmitted, RepeatEmitted, AtomicBy, ConditionBy, TestBy, TestEmitted, EitherBy, LooksBy, BackBy, Behind, BackEmitted, BehindEmitted, stopping, split_of}
+use Rattle.fancy_code.specs.declared.emitter.Emitter.{Emitter}
+use Rattle.fancy_code.specs.Emitted.{Appends, Emits, PutsShared, PutsBoth, emitted, len_of}
+use Rattle.fancy_code.specs.Easy.{is_easy, kind_of}
+use Rattle.fancy_code.specs.Compile.{StaysEasy, is_easy_instr, Has, HasBoth, Extends, Keeps, Means, Emitted, CopiesBy, CopiesEmitted, OptionalsBy, OptionalsEmitted, StarEmitted, RestEmitted, RepeatBy, AtomicBy, ConditionBy, TestBy, TestEmitted, EitherBy, BackBy, Behind, BackEmitted, BehindEmitted, stopping, split_of, look_of}
 use Rattle.fancy_code.proofs.CodeLemmas.{keeps_on, keeps_set, emitted_later, both_later, emitted_set, has_set}
+
+-- of an item, whose one instruction serves both forms
+pub shared_emits : (m : Meaning) → (p : Pattern) (i : Instruction) (before after : Emitter) (next entry : Entry) → (is_easy p ≡ true → is_easy_instr i ≡ true)
+    → ((later : List Instruction) → Has later entry.moved i → entry.still ≡ entry.moved → Means m p later next entry) → PutsShared i before after entry → Emits m p before after next entry
+shared_emits m p i before after next entry easy means puts = record {
+  means = λ later x. means later (x entry.moved i (omega (arith, puts.put.at)) puts.put.stands) puts.still;
+  grows = (puts.put.kept, omega (arith, puts.put.length), omega (arith, nodes-pos p, puts.put.length));
+  easy = λ is. puts.put.easy (easy is);
+}
+
+-- of what has one instruction for each form
+pub both_emit : (m : Meaning) → (p : Pattern) (a b : Instruction) (before after : Emitter) (next entry : Entry) → (is_easy p ≡ true → (is_easy_instr a ≡ true) × (is_easy_instr b ≡ true))
+    → ((later : List Instruction) → HasBoth later entry a b → Means m p later next entry) → PutsBoth a b before after entry → Emits m p before after next entry
+both_emit m p a b before after next entry easy means puts = record {
+  means = λ later x. means later (both_later (emitted after) (emitted after) (len_of before) entry a b (λ q i z h. h) (omega (arith, puts.moved_at)) (omega (arith, puts.still_at)) puts.stands later x);
+  grows = (puts.kept, omega (arith, puts.length), omega (arith, nodes-pos p, puts.length));
+  easy = λ is. puts.easy (easy is).0 (easy is).1;
+}
+
+-- it is the same after what has the same instructions
+pub emits_after : (m : Meaning) → (p : Pattern) (was before after : Emitter) (next entry : Entry) → emitted before ≡ emitted was → Emits m p before after next entry → Emits m p was after next entry
+emits_after m p was before after next entry e h = record {
+  means = subst (λ (l : List Instruction). Emitted m p (length l) (emitted after) next entry) e h.means;
+  grows = subst (λ (l : List Instruction). Keeps l (emitted after) × (length l ≤ len_of after) × (len_of after ≤ length l + 4 * nodes p)) e h.grows;
+  easy = λ is. subst (λ (l : List Instruction). StaysEasy l (emitted after)) e (h.easy is);
+}
+
+-- what was emitted, and then one instruction for each form
+pub then_both : (P : List Instruction → Type 0) → (most : ℕ) (a b : Instruction) (e0 e1 e2 : Emitter) (entry : Entry) → Appends most e0 e1
+    → ((later : List Instruction) → Extends (len_of e0) (emitted e1) later → P later) → PutsBoth a b e1 e2 entry → (later : List Instruction) → Extends (len_of e0) (emitted e2) later
+    → P later × HasBoth later entry a b
+then_both P most a b e0 e1 e2 entry grows body opening later x = (
+  emitted_later P (emitted e1) (emitted e2) (len_of e0) (len_of e0) opening.kept (omega arith) body later x,
+  both_later (emitted e2) (emitted e2) (len_of e0) entry a b (λ q i z h. h) (omega (arith, grows.1, opening.moved_at)) (omega (arith, grows.1, opening.still_at)) opening.stands later x,
+)
+
+-- one instruction for each form, what was emitted then, and one more for each form
+pub framed : (P : List Instruction → Type 0) → (most : ℕ) (a b c d : Instruction) (e0 e1 e2 e3 : Emitter) (close entry : Entry) → PutsBoth a b e0 e1 close → Appends most e1 e2
+    → ((later : List Instruction) → Extends (len_of e1) (emitted e2) later → P later) → PutsBoth c d e2 e3 entry → (later : List Instruction) → Extends (len_of e0) (emitted e3) later
+    → P later × HasBoth later close a b × HasBoth later entry c d
+framed P most a b c d e0 e1 e2 e3 close entry closing grows body opening later x = (
+  emitted_later P (emitted e2) (emitted e3) (len_of e0) (len_of e1) opening.kept (omega (arith, closing.length)) body later x,
+  both_later (emitted e1) (emitted e3) (len_of e0) close a b (keeps_on _ _ _ grows.0 opening.kept) (omega (arith, closing.moved_at)) (omega (arith, closing.still_at)) closing.stands later x,
+  both_later (emitted e3) (emitted e3) (len_of e0) entry c d (λ q i z h. h) (omega (arith, closing.length, grows.1, opening.moved_at)) (omega (arith, closing.length, grows.1, opening.still_at)) opening.stands later x,
+)
+
+pub framed_grows : (n : ℕ) → (a b c d : Instruction) (e0 e1 e2 e3 : Emitter) (close entry : Entry) → PutsBoth a b e0 e1 close → Appends (4 * n) e1 e2 → PutsBoth c d e2 e3 entry → Appends (4 * (n + 1)) e0 e3
+framed_grows n a b c d e0 e1 e2 e3 close entry closing grows opening = (
+  keeps_on _ _ _ closing.kept (keeps_on _ _ _ grows.0 opening.kept),
+  omega (arith, closing.length, grows.1, opening.length),
+  omega (arith, closing.length, grows.2, opening.length),
+)
+
+-- of an alternative: the last branch, and one that was emitted after the others
+pub last_emits : (m : Meaning) → (p : Pattern) (before after : Emitter) (next entry : Entry) → Emits m p before after next entry → Emits m (last_branch p) before after next entry
+unfolding nodes
+last_emits m p before after next entry h = record {
+  means = h.means;
+  grows = (h.grows.0, h.grows.1, omega (arith, h.grows.2));
+  easy = h.easy;
+}
+
+pub choice_emits : (m : Meaning) → (p others : Pattern) (e0 e1 e2 e3 : Emitter) (next one two entry : Entry) → Emits m others e0 e1 next two → Emits m p e1 e2 next one
+    → PutsBoth (i.Split one.moved two.moved) (i.Split one.still two.still) e2 e3 entry → Emits m (or_else p others) e0 e3 next entry
+unfolding nodes
+choice_emits m p others e0 e1 e2 e3 next one two entry a b split = record {
+  means = λ later x. (
+    one,
+    two,
+    emitted_later (λ later. Means m p later next one) (emitted e2) (emitted e3) (len_of e0) (len_of e1) split.kept (omega (arith, a.grows.1)) b.means later x,
+    emitted_later (λ later. Means m others later next two) (emitted e1) (emitted e3) (len_of e0) (len_of e0) (keeps_on _ _ _ b.grows.0 split.kept) (omega arith) a.means later x,
+    both_later (emitted e3) (emitted e3) (len_of e0) entry _ _ (λ q i z h. h) (omega (arith, a.grows.1, b.grows.1, split.moved_at)) (omega (arith, a.grows.1, b.grows.1, split.still_at)) split.stands later x,
+  );
+  grows = (keeps_on _ _ _ a.grows.0 (keeps_on _ _ _ b.grows.0 split.kept), omega (arith, a.grows.1, b.grows.1, split.length), omega (arith, a.grows.2, b.grows.2, split.length));
+  easy = λ is h. let parts = and_parts (is_easy p) (is_easy others) is in split.easy refl refl (b.easy parts.0 (a.easy parts.1 h));
+}
+
+pub group_emits : (m : Meaning) → (index : ℕ) (p : Pattern) (e0 e1 e2 e3 : Emitter) (next close inner entry : Entry) → PutsBoth (i.Close index next.moved) (i.Close index next.still) e0 e1 close
+    → Emits m p e1 e2 close inner → PutsBoth (i.Open index inner.moved) (i.Open index inner.still) e2 e3 entry → Emits m (group index p) e0 e3 next entry
+unfolding nodes
+group_emits m index p e0 e1 e2 e3 next close inner entry closing body opening = record {
+  means = λ later x. let all = framed (λ later. Means m p later close inner) (4 * nodes p) _ _ _ _ _ _ _ _ _ _ closing body.grows body.means opening later x in (close, inner, all.0, all.1, all.2);
+  grows = framed_grows (nodes p) _ _ _ _ _ _ _ _ _ _ closing body.grows opening;
+  easy = λ is h. opening.easy refl refl (body.easy is (closing.easy refl refl h));
+}
+
+pub atomic_emits : (m : Meaning) → (p : Pattern) (e0 e1 e2 e3 : Emitter) (next close inner entry : Entry) → PutsBoth (i.Commit next.moved) (i.Commit next.still) e0 e1 close
+    → Emits m p e1 e2 close inner → PutsBoth (i.Enter inner.moved) (i.Enter inner.still) e2 e3 entry → Emits m (atomic p) e0 e3 next entry
+unfolding nodes
+atomic_emits m p e0 e1 e2 e3 next close inner entry closing body opening = record {
+  means = λ later x. let all = framed (λ later. Means m p later close inner) (4 * nodes p) _ _ _ _ _ _ _ _ _ _ closing body.grows body.means opening later x in (close, inner, all.0, all.1, all.2);
+  grows = framed_grows (nodes p) _ _ _ _ _ _ _ _ _ _ closing body.grows opening;
+  easy = λ is. absurd (true≢false (sym is));
+}
+
+-- a possessive repeat is an atomic group round the greedy one
+pub possessive_emits : (m : Meaning) → (low : ℕ) (high : Option ℕ) (p : Pattern) (before after : Emitter) (next entry : Entry) → Emits m (atomic (repeat low high Greedy p)) before after next entry
+    → Emits m (repeat low high Possessive p) before after next entry
+unfolding nodes
+possessive_emits m low high p before after next entry h = record {
+  means = h.means;
+  grows = (h.grows.0, h.grows.1, omega (arith, h.grows.2));
+  easy = λ is. absurd (true≢false (sym is));
+}
+
+pub ahead_emits : (m : Meaning) → (negated : Bool) (p : Pattern) (e0 e1 e2 : Emitter) (next inner entry : Entry) → Emits m p e0 e1 stopping inner
+    → PutsBoth (look_of negated false inner.moved next.moved) (look_of negated false inner.moved next.still) e1 e2 entry → Emits m (look_ahead negated p) e0 e2 next entry
+unfolding nodes
+ahead_emits m negated p e0 e1 e2 next inner entry body opening = record {
+  means = λ later x. let all = then_both (λ later. Means m p later stopping inner) (4 * nodes p) _ _ e0 e1 e2 entry body.grows body.means opening later x in (inner, all.0, all.1);
+  grows = (keeps_on _ _ _ body.grows.0 opening.kept, omega (arith, body.grows.1, opening.length), omega (arith, body.grows.2, opening.length));
+  easy = λ is. absurd (true≢false (sym is));
+}
+
+pub behind_emits : (m : Meaning) → (negated : Bool) (p : Pattern) (e0 e1 e2 : Emitter) (next : Entry) (start : ℕ) (entry : Entry) → BehindEmitted m p (len_of e0) (emitted e1) start
+    → Appends (4 * nodes p + 1) e0 e1 → PutsBoth (look_of negated true start next.moved) (look_of negated true start next.still) e1 e2 entry → Emits m (look_behind negated p) e0 e2 next entry
+unfolding nodes
+behind_emits m negated p e0 e1 e2 next start entry body grows opening = record {
+  means = λ later x. let all = then_both (λ later. Behind m p (Means m p later stopping) later start) (4 * nodes p + 1) _ _ e0 e1 e2 entry grows body opening later x in (start, all.0, all.1);
+  grows = (keeps_on _ _ _ grows.0 opening.kept, omega (arith, grows.1, opening.length), omega (arith, grows.2, opening.length));
+  easy = λ is. absurd (true≢false (sym is));
+}
 
 -- the sizes of the parts from j on
 pub sizes_from : (ts : List Tree) (n j : ℕ) (t : Tree) → j + 1 ≡ n → j < length ts → t ≡ get_or ts j t
@@ -44,33 +171,6 @@ sequence_emitted m p ps qs e from n c1 c2 next mid entry a k le b =
     (emitted_later (λ later. Means m (in_sequence ps) later next mid) c1 c2 from from k (omega arith) a later x)
     (emitted_later (λ later. Means m p later mid entry) c2 c2 from n (λ q i z h. h) le b later x))
 
--- of an alternative: the branch was emitted after the others
-pub choice_emitted : (m : Meaning) → (p others all : Pattern) → all ≡ or_else p others → (from n : ℕ) (c1 c2 c3 : List Instruction) (next one two entry : Entry)
-    → Emitted m others from c1 next two → Keeps c1 c2 → from ≤ n → Emitted m p n c2 next one → Keeps c2 c3
-    → HasBoth c3 entry (i.Split one.moved two.moved) (i.Split one.still two.still) → from ≤ entry.moved → from ≤ entry.still → Emitted m all from c3 next entry
-choice_emitted m p others all e from n c1 c2 c3 next one two entry a k le b l has lm ls =
-    subst (λ (q : Pattern). Emitted m q from c3 next entry) (sym e)
-    (λ later x. (
-      one,
-      two,
-      emitted_later (λ later. Means m p later next one) c2 c3 from n l le b later x,
-      emitted_later (λ later. Means m others later next two) c1 c3 from from (keeps_on c1 c2 c3 k l) (omega arith) a later x,
-      both_later c3 c3 from entry _ _ (λ q i z h. h) lm ls has later x,
-    ))
-
--- of a group: the closing instructions, the body and the opening ones
-pub group_emitted : (m : Meaning) → (index : ℕ) (p : Pattern) (from n : ℕ) (c1 c2 c3 : List Instruction) (next close inner entry : Entry)
-    → HasBoth c1 close (i.Close index next.moved) (i.Close index next.still) → Keeps c1 c2 → from ≤ close.moved → from ≤ close.still
-    → Emitted m p n c2 close inner → from ≤ n → Keeps c2 c3 → HasBoth c3 entry (i.Open index inner.moved) (i.Open index inner.still) → from ≤ entry.moved → from ≤ entry.still
-    → Emitted m (group index p) from c3 next entry
-group_emitted m index p from n c1 c2 c3 next close inner entry closing k cm cs body le l opening om os later x = (
-  close,
-  inner,
-  emitted_later (λ later. Means m p later close inner) c2 c3 from n l le body later x,
-  both_later c1 c3 from close _ _ (keeps_on c1 c2 c3 k l) cm cs closing later x,
-  both_later c3 c3 from entry _ _ (λ q i z h. h) om os opening later x,
-)
-
 -- one copy more
 pub copies_emitted : (m : Meaning) → (p : Pattern) (count from n : ℕ) (c1 c2 : List Instruction) (next mid entry : Entry) → CopiesEmitted m count p from c1 next mid → Keeps c1 c2 → from ≤ n
     → Emitted m p n c2 mid entry → CopiesEmitted m (count + 1) p from c2 next entry
@@ -94,35 +194,32 @@ optionals_emitted m greedy p count from n c1 c2 c3 next mid body entry a k le b 
     )
 
 -- what follows the least number of turns, and then these
-pub repeat_emitted : (m : Meaning) → (greedy : Bool) (low : ℕ) (high : Option ℕ) (p : Pattern) (from n : ℕ) (c1 c2 : List Instruction) (next mid entry : Entry) → RestEmitted m greedy low high p from c1 next mid
-    → Keeps c1 c2 → from ≤ n → CopiesEmitted m low p n c2 mid entry → RepeatEmitted m greedy low high p from c2 next entry
+repeat_emitted : (m : Meaning) → (greedy : Bool) (low : ℕ) (high : Option ℕ) (p : Pattern) (from n : ℕ) (c1 c2 : List Instruction) (next mid entry : Entry) → RestEmitted m greedy low high p from c1 next mid
+    → Keeps c1 c2 → from ≤ n → CopiesEmitted m low p n c2 mid entry → (later : List Instruction) → Extends from c2 later → RepeatBy (Means m p later) greedy later low high next entry
 repeat_emitted m greedy low high p from n c1 c2 next mid entry a k le b later x = (
   mid,
   a later (λ q i z h. x q i z (k q i (omega arith) h)),
   emitted_later (λ later. CopiesBy (Means m p later) low mid entry) c2 c2 from n (λ q i z h. h) le b later x,
 )
 
--- of an atomic part: the instructions at its end, the part, and those at its start
-pub atomic_by : (M : List Instruction → Entry → Entry → Type 0) → (from n : ℕ) (c1 c2 c3 : List Instruction) (next close inner entry : Entry)
-    → HasBoth c1 close (i.Commit next.moved) (i.Commit next.still) → Keeps c1 c2 → from ≤ close.moved → from ≤ close.still
-    → ((later : List Instruction) → Extends n c2 later → M later close inner) → from ≤ n → Keeps c2 c3 → HasBoth c3 entry (i.Enter inner.moved) (i.Enter inner.still)
-    → from ≤ entry.moved → from ≤ entry.still → (later : List Instruction) → Extends from c3 later → AtomicBy (M later) later next entry
-atomic_by M from n c1 c2 c3 next close inner entry closing k cm cs body le l opening om os later x = (
-  close,
-  inner,
-  emitted_later (λ later. M later close inner) c2 c3 from n l le body later x,
-  both_later c1 c3 from close _ _ (keeps_on c1 c2 c3 k l) cm cs closing later x,
-  both_later c3 c3 from entry _ _ (λ q i z h. h) om os opening later x,
-)
+of_kind : (m : Meaning) → (greedy : Bool) (low : ℕ) (high : Option ℕ) (p : Pattern) (code : List Instruction) (next entry : Entry)
+    → RepeatBy (Means m p code) greedy code low high next entry → Means m (repeat low high (kind_of greedy) p) code next entry
+of_kind m true low high p code next entry by = by
+of_kind m false low high p code next entry by = by
 
--- of a look-ahead: its body, and the instructions at its start
-pub ahead_emitted : (m : Meaning) → (negated : Bool) (p : Pattern) (from : ℕ) (c2 c3 : List Instruction) (next inner entry : Entry) → Emitted m p from c2 stopping inner → Keeps c2 c3
-    → LooksBy negated false inner.moved c3 next entry → from ≤ entry.moved → from ≤ entry.still → Emitted m (look_ahead negated p) from c3 next entry
-ahead_emitted m negated p from c2 c3 next inner entry body l has om os later x = (
-  inner,
-  emitted_later (λ later. Means m p later stopping inner) c2 c3 from from l (omega arith) body later x,
-  both_later c3 c3 from entry _ _ (λ q i z h. h) om os has later x,
-)
+easy_body : (greedy : Bool) (low : ℕ) (high : Option ℕ) (p : Pattern) → is_easy (repeat low high (kind_of greedy) p) ≡ true → is_easy p ≡ true
+easy_body true low high p is = is
+easy_body false low high p is = is
+
+pub repeat_emits : (m : Meaning) → (greedy : Bool) (low : ℕ) (high : Option ℕ) (p : Pattern) (most : ℕ) (e0 e1 e2 : Emitter) (next mid entry : Entry) → RestEmitted m greedy low high p (len_of e0) (emitted e1) next mid
+    → Appends most e0 e1 → (is_easy p ≡ true → StaysEasy (emitted e0) (emitted e1)) → CopiesEmitted m low p (len_of e1) (emitted e2) mid entry → Appends (4 * (low * nodes p)) e1 e2
+    → (is_easy p ≡ true → StaysEasy (emitted e1) (emitted e2)) → most + 4 * (low * nodes p) ≤ 4 * repeat_nodes low high (nodes p) → Emits m (repeat low high (kind_of greedy) p) e0 e2 next entry
+unfolding nodes
+repeat_emits m greedy low high p most e0 e1 e2 next mid entry rest k easy copies l easily few = record {
+  means = λ later x. of_kind m greedy low high p later next entry (repeat_emitted m greedy low high p _ _ _ _ next mid entry rest l.0 k.1 copies later x);
+  grows = (keeps_on _ _ _ k.0 l.0, omega (arith, k.1, l.1), omega (arith, k.2, l.2, few));
+  easy = λ is h. easily (easy_body greedy low high p is) (easy (easy_body greedy low high p is) h);
+}
 
 -- of a branch of a look-behind: it goes back, or fails without a size
 pub back_emitted : (m : Meaning) → (p : Pattern) (n : ℕ) → size m p ≡ Some n → (from : ℕ) (c2 c3 : List Instruction) (inner : Entry) (start : ℕ) → Emitted m p from c2 stopping inner → Keeps c2 c3
@@ -167,27 +264,16 @@ behind_choice_emitted m p others all e from n c1 c2 c3 one two start a k le b l 
       x start _ ls has,
     ))
 
--- of a look-behind: its body, and the instructions at its start
-pub behind_emitted : (m : Meaning) → (negated : Bool) (p : Pattern) (from : ℕ) (c2 c3 : List Instruction) (next : Entry) (start : ℕ) (entry : Entry) → BehindEmitted m p from c2 start → Keeps c2 c3
-    → LooksBy negated true start c3 next entry → from ≤ entry.moved → from ≤ entry.still → Emitted m (look_behind negated p) from c3 next entry
-behind_emitted m negated p from c2 c3 next start entry body l has om os later x = (
-  start,
-  emitted_later (λ later. Behind m p (Means m p later stopping) later start) c2 c3 from from l (omega arith) body later x,
-  both_later c3 c3 from entry _ _ (λ q i z h. h) om os has later x,
-)
-
--- of a condition: the instructions at its end, the condition, and those at its start
-pub test_emitted : (m : Meaning) → (p : Pattern) (from n : ℕ) (c1 c2 c3 : List Instruction) (one two close inner entry : Entry)
-    → HasBoth c1 close (i.Commit one.moved) (i.Commit one.still) → Keeps c1 c2 → from ≤ close.moved → from ≤ close.still
-    → Emitted m p n c2 close inner → from ≤ n → Keeps c2 c3 → HasBoth c3 entry (i.Test inner.moved two.moved) (i.Test inner.still two.still)
-    → from ≤ entry.moved → from ≤ entry.still → TestEmitted m p from c3 one two entry
-test_emitted m p from n c1 c2 c3 one two close inner entry closing k cm cs body le l opening om os later x = (
-  close,
-  inner,
-  emitted_later (λ later. Means m p later close inner) c2 c3 from n l le body later x,
-  both_later c1 c3 from close _ _ (keeps_on c1 c2 c3 k l) cm cs closing later x,
-  both_later c3 c3 from entry _ _ (λ q i z h. h) om os opening later x,
-)
+-- of a conditional whose branches are empty: it is an atomic group
+pub empty_emits : (m : Meaning) → (p q r : Pattern) (before after : Emitter) (next entry : Entry) → (is_empty q && is_empty r) ≡ true → Emits m (atomic p) before after next entry
+    → Emits m (conditional p q r) before after next entry
+unfolding nodes
+empty_emits m p q r before after next entry e h = record {
+  means = λ later x.
+      subst (λ (empty : Bool). EitherBy empty (AtomicBy (Means m p later) later next entry) (ConditionBy (Means m p later) (Means m q later next) (Means m r later next) later entry)) (sym e) (h.means later x);
+  grows = (h.grows.0, h.grows.1, omega (arith, h.grows.2));
+  easy = λ is. absurd (true≢false (sym is));
+}
 
 -- of a conditional: its branches, and then its condition
 pub condition_emitted : (m : Meaning) → (p q r all : Pattern) → all ≡ conditional p q r → (is_empty q && is_empty r) ≡ false → (from n1 n2 : ℕ) (c1 c2 c3 : List Instruction) (next one two entry : Entry)

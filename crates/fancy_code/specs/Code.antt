@@ -1,5 +1,7 @@
 -- The instructions of a code.
-use Rattle.std.specs.Prelude.{ℕ, Bool, List, Option, length, slice_index_or}
+use Rattle.std.specs.Prelude.{◌≡◌, ℕ, Bool, List, Option, length, slice_index_or}
+use Rattle.fancy_tree.specs.declared.tree.Meaning.{Meaning}
+use Rattle.fancy_prefilter.specs.declared.prefilter.Prefilter.{Prefilter}
 use Rattle.fancy_code.specs.declared.code.Code.{Code}
 use Rattle.fancy_code.specs.declared.code.Instr.{Instr}
 use Rattle.fancy_code.specs.CodeLength.{code_len}
@@ -9,6 +11,14 @@ use Rattle.fancy_code.specs.Marking.{Marks, number_in, due_in, worth_in, cost_in
 -- each with the edges of its set
 abbrev pub instrs_of : Code → List Instruction
 instrs_of c = with_sets c.sets.items c.instrs.items
+
+-- the code has these instructions, begins so, and tells by the prefilter where matches may begin
+pub record IsMadeOf (is : List Instruction) (s g : ℕ) (m : Meaning) (f : Prefilter) (code : Code) : Type 0 where
+  pub instrs : instrs_of code ≡ is
+  pub start : code.start ≡ s
+  pub groups : code.groups ≡ g
+  pub meaning : code.meaning ≡ m
+  pub prefilter : code.prefilter ≡ f
 
 -- one instruction with the edges of its set
 abbrev pub instr_in : Code → Instr → Instruction

@@ -1,5 +1,5 @@
 -- What it is for instructions to be those of a pattern.
-use Rattle.std.specs.Prelude.{◌≡◌, ℕ, zero, suc, ◌+◌, ◌-◌, ◌<◌, ◌≤◌, Bool, true, false, ◌&&◌, List, [], ◌∷◌, Option, Some, None, IfSome, length, slice_get, slice_index}
+use Rattle.std.specs.Prelude.{◌≡◌, ℕ, zero, suc, ◌+◌, ◌-◌, ◌*◌, ◌<◌, ◌≤◌, Bool, true, false, ◌&&◌, List, [], ◌∷◌, Option, Some, None, IfSome, length, slice_get, slice_index}
 use Rattle.fancy_tree.specs.declared.tree.RepeatKind.{RepeatKind}
 use Rattle.fancy_tree.specs.declared.tree.RepeatKind.TheVariants.{Greedy, Lazy, Possessive}
 use Rattle.fancy_tree.specs.GroupNumbers.{Numbered}
@@ -11,7 +11,9 @@ use Rattle.fancy_code.specs.declared.code.Entry.{Entry}
 use Rattle.fancy_code.specs.Instructions.{Instruction}
 use Rattle.fancy_code.specs.Instructions as i
 use Rattle.fancy_tree.specs.declared.tree.Meaning.{Meaning}
-use Rattle.fancy_tree.specs.Sizes.{size, is_empty}
+use Rattle.fancy_tree.specs.Sizes.{size, nodes, is_empty}
+use Rattle.fancy_code.specs.CodeLength.{code_len}
+use Rattle.fancy_code.specs.Easy.{is_easy}
 use Rattle.fancy_code.specs.Code.{instrs_of}
 use Rattle.fancy_code.specs.Branches.{AreBranches}
 use Rattle.fancy_prefilter.specs.Prefilters.{text_in, window_in, branches_in}
@@ -180,10 +182,6 @@ abbrev pub RestEmitted : Meaning → Bool → ℕ → Option ℕ → Pattern →
 RestEmitted m greedy low high p from code next entry =
     (later : List Instruction) → Extends from code later → RestBy (Means m p later) greedy later low high next entry
 
-abbrev pub RepeatEmitted : Meaning → Bool → ℕ → Option ℕ → Pattern → ℕ → List Instruction → Entry → Entry → Type 0
-RepeatEmitted m greedy low high p from code next entry =
-    (later : List Instruction) → Extends from code later → RepeatBy (Means m p later) greedy later low high next entry
-
 -- how many instructions deep n turns of a star go, where one goes d deep
 abbrev pub turn_depth : ℕ → ℕ → ℕ
 turn_depth d zero = 1
@@ -314,3 +312,12 @@ are_easy (i ∷ code) = is_easy_instr i && are_easy code
 -- Code that was easy still is.
 abbrev pub StaysEasy : List Instruction → List Instruction → Type 0
 StaysEasy code later = are_easy code ≡ true → are_easy later ≡ true
+
+-- The code is that of the pattern with so many groups. It has at most four instructions for each node, and two more, and is easy where
+-- the pattern is.
+pub record IsCompiled (p : Pattern) (g : ℕ) (m : Meaning) (c : Code) : Type 0 where
+  pub code : IsCodeOf p c
+  pub easy : is_easy p ≡ true → are_easy (instrs_of c) ≡ true
+  pub short : code_len c ≤ 4 * nodes p + 2
+  pub groups : c.groups ≡ g
+  pub meaning : c.meaning ≡ m

@@ -10,6 +10,11 @@ goes_back Greedy = true
 goes_back Lazy = true
 goes_back Possessive = false
 
+-- the kind of a repeat that can go back: greedy or lazy
+abbrev pub kind_of : Bool → RepeatKind
+kind_of true = Greedy
+kind_of false = Lazy
+
 -- the patterns whose code never reads what it has captured, and ends no way early
 abbrev pub is_easy : Pattern → Bool
 is_easy empty = true

@@ -121,7 +121,7 @@ pub struct Code {
 impl Code {
     ghost use Rattle.std.specs.Prelude.{IfSome};
     ghost use Rattle.fancy_code.specs.Choices.{LeavesOut};
-    ghost use Rattle.fancy_code.specs.Code.{instrs_of, instr_in, sets_len, set_edges, due_of, number_of, width_of};
+    ghost use Rattle.fancy_code.specs.Code.{IsMadeOf, instrs_of, instr_in, sets_len, set_edges, due_of, number_of, width_of};
     ghost use Rattle.fancy_code.specs.CodeLength.{code_len};
     ghost use Rattle.fancy_code.specs.Instructions.{Split};
     ghost use Rattle.fancy_code.specs.Run.{instr_at};
@@ -138,11 +138,8 @@ impl Code {
     ) -> Result<Code, AllocError>
         requires known { IsTrue (are_known (length sets.items) instrs.items) }
         requires branches { branches_in prefilter.opening ≡ None }
-        ensures instrs { IfOk result (λ code. instrs_of code ≡ with_sets sets.items instrs.items) }
-        ensures start { IfOk result (λ code. code.start ≡ start) }
-        ensures groups { IfOk result (λ code. code.groups ≡ groups) }
-        ensures meaning { IfOk result (λ code. code.meaning ≡ meaning) }
-        ensures prefilter { IfOk result (λ code. code.prefilter ≡ prefilter) }
+        ensures { IfOk result (λ code.
+            IsMadeOf (with_sets sets.items instrs.items) start groups meaning prefilter code) }
     {
         let alloc = *instrs.allocator();
         let marking = Marking::new(alloc, &instrs, start)?;
@@ -161,11 +158,8 @@ impl Code {
     /// The same code, with the bytes that the ways of each choice may begin with.
     pub(crate) fn with_beginnings(self, beginnings: Vec<Beginnings>) -> Code
         requires { AreBeginnings beginnings.items (instrs_of self) self.meaning }
-        ensures instrs { instrs_of result ≡ instrs_of self }
-        ensures start { result.start ≡ self.start }
-        ensures groups { result.groups ≡ self.groups }
-        ensures meaning { result.meaning ≡ self.meaning }
-        ensures prefilter { result.prefilter ≡ self.prefilter }
+        ensures { IsMadeOf (instrs_of self) self.start self.groups self.meaning self.prefilter
+            result }
     {
         Code {
             instrs: self.instrs,

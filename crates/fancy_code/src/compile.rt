@@ -1,16 +1,16 @@
 //! From a pattern to its code, from the end to the start, so that each instruction is told where it goes on.
 
-ghost use Rattle.std.specs.Prelude.{◌≡◌, ℕ, List, ◌+◌, ◌*◌, ◌^◌, ◌<◌, ◌≤◌, IfOk, IsTrue, All, map, sum_by, true, length};
+ghost use Rattle.std.specs.Prelude.{◌≡◌, ℕ, List, ◌+◌, ◌*◌, ◌^◌, ◌<◌, ◌≤◌, IfOk, map, sum_by, true, length};
 ghost use Rattle.fancy_tree.specs.Pattern.{pattern_of, group, repeat, look_ahead, look_behind, atomic, in_sequence, in_choice};
 ghost use Rattle.fancy_tree.specs.declared.tree.RepeatKind.TheVariants.{Possessive};
-ghost use Rattle.fancy_tree.specs.Sizes.{nodes, repeat_nodes, kind_nodes};
+ghost use Rattle.fancy_tree.specs.Sizes.{nodes};
 ghost use Rattle.fancy_code.specs.Code.{instrs_of};
 ghost use Rattle.fancy_code.specs.CodeLength.{code_len};
 ghost use Rattle.fancy_code.specs.Instructions.{with_set, is_known};
-ghost use Rattle.fancy_code.specs.Emitted.{Adds, Appends, emitted, len_of};
+ghost use Rattle.fancy_code.specs.Emitted.{Emits, Appends, emitted, len_of};
 ghost use Rattle.fancy_tree.specs.GroupNumbers.{Numbered};
-ghost use Rattle.fancy_code.specs.Compile.{CopiesEmitted, OptionalsEmitted, StarEmitted, RestEmitted, RepeatEmitted, TestEmitted, BackEmitted, BehindEmitted, IsCodeOf, StaysEasy, are_easy, split_of, look_of};
-ghost use Rattle.fancy_code.specs.Easy.{goes_back, is_easy};
+ghost use Rattle.fancy_code.specs.Compile.{CopiesEmitted, OptionalsEmitted, StarEmitted, TestEmitted, BackEmitted, BehindEmitted, IsCodeOf, IsCompiled, StaysEasy, are_easy, split_of, look_of};
+ghost use Rattle.fancy_code.specs.Easy.{kind_of, is_easy};
 
 use crate::choosing::with_choices;
 use crate::classify::is_easy;
@@ -23,6 +23,13 @@ use fancy_tree::measure::are_empty;
 use fancy_tree::set::Set;
 use fancy_tree::tree::{Meaning, RepeatKind, Tree};
 use std::alloc::{AllocError, Global};
+
+/// How many turns a repeat makes: at least `low`, and at most `high` where that is set.
+#[derive(Clone, Copy)]
+struct Turns {
+    low: u32,
+    high: Option<u32>,
+}
 
 /// A choice between one more turn and none.
 fn split(greedy: bool, more: usize, less: usize) -> Instr
@@ -54,11 +61,8 @@ fn look(negated: bool, behind: bool, body: usize, next: usize) -> Instr
 #[tactic(auto, using(fancy_tree::proofs::PatternLemmas::pattern_equations), unfolding(fancy_tree::specs::Sizes::nodes))]
 fn emit(code: &mut Emitter, meaning: Meaning, tree: &Tree, next: Entry) -> Result<Entry, AllocError>
     requires small { nodes (pattern_of tree.now) < 2 ^ 64 }
-    ensures easy { IfOk result (λ _. is_easy (pattern_of tree.now) ≡ true
-        → StaysEasy (emitted code.old) (emitted code.new)) }
-    ensures means { IfOk result (λ entry.
-        Adds meaning (pattern_of tree.now) code.old code.new next entry) }
-    ensures grows { IfOk result (λ _. Appends (4 * nodes (pattern_of tree.now)) code.old code.new) }
+    ensures { IfOk result (λ entry.
+        Emits meaning (pattern_of tree.now) code.old code.new next entry) }
 {
     match tree {
         Tree::Empty => Ok(next),
@@ -75,7 +79,13 @@ fn emit(code: &mut Emitter, meaning: Meaning, tree: &Tree, next: Entry) -> Resul
             high,
             kind,
             body,
-        } => { emit_kind(code, meaning, *kind, *low, *high, body, next) }
+        } => {
+            let turns = Turns {
+                low: *low,
+                high: *high,
+            };
+            emit_kind(code, meaning, *kind, turns, body, next)
+        }
         Tree::Concat(parts) => emit_sequence(code, meaning, parts, next),
         Tree::Alternation(branches) => emit_choice(code, meaning, branches, next),
         Tree::Backreference { folded, group } => code.put_recall(meaning, *folded, *group, next),
@@ -109,6 +119,7 @@ fn emit(code: &mut Emitter, meaning: Meaning, tree: &Tree, next: Entry) -> Resul
 
 /// Appends the code of a group.
 #[cycle(emit)]
+#[tactic(auto, unfolding(fancy_tree::specs::Sizes::nodes))]
 fn emit_group(
     code: &mut Emitter,
     meaning: Meaning,
@@ -116,13 +127,9 @@ fn emit_group(
     body: &Tree,
     next: Entry,
 ) -> Result<Entry, AllocError>
-    requires small { nodes (pattern_of body.now) < 2 ^ 64 }
-    ensures easy { IfOk result (λ _. is_easy (pattern_of body.now) ≡ true
-        → StaysEasy (emitted code.old) (emitted code.new)) }
-    ensures means { IfOk result (λ entry.
-        Adds meaning (group index (pattern_of body.now)) code.old code.new next entry) }
-    ensures grows { IfOk result (λ _.
-        Appends (4 * (nodes (pattern_of body.now) + 1)) code.old code.new) }
+    requires small { nodes (group index (pattern_of body.now)) < 2 ^ 64 }
+    ensures { IfOk result (λ entry.
+        Emits meaning (group index (pattern_of body.now)) code.old code.new next entry) }
 {
     let close = code.put_both(
         Instr::Close(index, next.moved),
@@ -138,17 +145,16 @@ fn emit_group(
 
 /// Appends the code of an atomic group.
 #[cycle(emit)]
+#[tactic(auto, unfolding(fancy_tree::specs::Sizes::nodes))]
 fn emit_atomic(
     code: &mut Emitter,
     meaning: Meaning,
     body: &Tree,
     next: Entry,
 ) -> Result<Entry, AllocError>
-    requires small { nodes (pattern_of body.now) < 2 ^ 64 }
-    ensures means { IfOk result (λ entry.
-        Adds meaning (atomic (pattern_of body.now)) code.old code.new next entry) }
-    ensures grows { IfOk result (λ _.
-        Appends (4 * (nodes (pattern_of body.now) + 1)) code.old code.new) }
+    requires small { nodes (atomic (pattern_of body.now)) < 2 ^ 64 }
+    ensures { IfOk result (λ entry.
+        Emits meaning (atomic (pattern_of body.now)) code.old code.new next entry) }
 {
     let close = code.put_both(Instr::Commit(next.moved), Instr::Commit(next.still))?;
     let inner = emit(code, meaning, body, close)?;
@@ -158,6 +164,7 @@ fn emit_atomic(
 
 /// Appends the code of a look-ahead.
 #[cycle(emit)]
+#[tactic(auto, unfolding(fancy_tree::specs::Sizes::nodes))]
 fn emit_ahead(
     code: &mut Emitter,
     meaning: Meaning,
@@ -165,11 +172,9 @@ fn emit_ahead(
     body: &Tree,
     next: Entry,
 ) -> Result<Entry, AllocError>
-    requires small { nodes (pattern_of body.now) < 2 ^ 64 }
-    ensures means { IfOk result (λ entry.
-        Adds meaning (look_ahead negated (pattern_of body.now)) code.old code.new next entry) }
-    ensures grows { IfOk result (λ _.
-        Appends (4 * (nodes (pattern_of body.now) + 1)) code.old code.new) }
+    requires small { nodes (look_ahead negated (pattern_of body.now)) < 2 ^ 64 }
+    ensures { IfOk result (λ entry.
+        Emits meaning (look_ahead negated (pattern_of body.now)) code.old code.new next entry) }
 {
     let stop = Entry {
         moved: MATCH,
@@ -185,6 +190,7 @@ fn emit_ahead(
 
 /// Appends the code of a look-behind.
 #[cycle(emit)]
+#[tactic(auto, unfolding(fancy_tree::specs::Sizes::nodes))]
 fn emit_behind(
     code: &mut Emitter,
     meaning: Meaning,
@@ -192,11 +198,9 @@ fn emit_behind(
     body: &Tree,
     next: Entry,
 ) -> Result<Entry, AllocError>
-    requires small { nodes (pattern_of body.now) < 2 ^ 64 }
-    ensures means { IfOk result (λ entry.
-        Adds meaning (look_behind negated (pattern_of body.now)) code.old code.new next entry) }
-    ensures grows { IfOk result (λ _.
-        Appends (4 * (nodes (pattern_of body.now) + 1)) code.old code.new) }
+    requires small { nodes (look_behind negated (pattern_of body.now)) < 2 ^ 64 }
+    ensures { IfOk result (λ entry.
+        Emits meaning (look_behind negated (pattern_of body.now)) code.old code.new next entry) }
 {
     let start = emit_backward(code, meaning, body)?;
     let entry = code.put_both(
@@ -321,81 +325,80 @@ fn emit_condition(
 
 /// Appends the code of a repeat of this kind.
 #[cycle(emit)]
+#[tactic(auto, unfolding(fancy_tree::specs::Sizes::nodes))]
 fn emit_kind(
     code: &mut Emitter,
     meaning: Meaning,
     kind: RepeatKind,
-    low: u32,
-    high: Option<u32>,
+    turns: Turns,
     body: &Tree,
     next: Entry,
 ) -> Result<Entry, AllocError>
-    requires small { repeat_nodes low high (nodes (pattern_of body.now)) < 2 ^ 64 }
-    ensures easy { IfOk result (λ _. goes_back kind ≡ true → is_easy (pattern_of body.now) ≡ true
-        → StaysEasy (emitted code.old) (emitted code.new)) }
-    ensures means { IfOk result (λ entry.
-        Adds meaning (repeat low high kind (pattern_of body.now)) code.old code.new next entry) }
-    ensures grows { IfOk result (λ _.
-        Appends (4 * (repeat_nodes low high (nodes (pattern_of body.now)) + kind_nodes kind)) code.old code.new) }
+    requires small { nodes (repeat turns.low turns.high kind (pattern_of body.now)) < 2 ^ 64 }
+    ensures { IfOk result (λ entry.
+        Emits meaning (repeat turns.low turns.high kind (pattern_of body.now))
+        code.old code.new next entry) }
 {
     match kind {
-        RepeatKind::Greedy => emit_repeat(code, meaning, true, low, high, body, next),
-        RepeatKind::Lazy => emit_repeat(code, meaning, false, low, high, body, next),
-        RepeatKind::Possessive => emit_possessive(code, meaning, low, high, body, next),
+        RepeatKind::Greedy => emit_repeat(code, meaning, true, turns, body, next),
+        RepeatKind::Lazy => emit_repeat(code, meaning, false, turns, body, next),
+        RepeatKind::Possessive => emit_possessive(code, meaning, turns, body, next),
     }
 }
 
 /// Appends the code of a possessive repeat, which is an atomic group round the greedy one.
 #[cycle(emit)]
+#[tactic(auto, unfolding(fancy_tree::specs::Sizes::nodes))]
 fn emit_possessive(
     code: &mut Emitter,
     meaning: Meaning,
-    low: u32,
-    high: Option<u32>,
+    turns: Turns,
     body: &Tree,
     next: Entry,
 ) -> Result<Entry, AllocError>
-    requires small { repeat_nodes low high (nodes (pattern_of body.now)) < 2 ^ 64 }
-    ensures means { IfOk result (λ entry.
-        Adds meaning (repeat low high Possessive (pattern_of body.now))
+    requires small { nodes (repeat turns.low turns.high Possessive (pattern_of body.now)) < 2 ^ 64 }
+    ensures { IfOk result (λ entry.
+        Emits meaning (repeat turns.low turns.high Possessive (pattern_of body.now))
         code.old code.new next entry) }
-    ensures grows { IfOk result (λ _.
-        Appends (4 * (repeat_nodes low high (nodes (pattern_of body.now)) + 1)) code.old code.new) }
 {
     let close = code.put_both(Instr::Commit(next.moved), Instr::Commit(next.still))?;
-    let inner = emit_repeat(code, meaning, true, low, high, body, close)?;
+    let inner = emit_repeat(code, meaning, true, turns, body, close)?;
     let entry = code.put_both(Instr::Enter(inner.moved), Instr::Enter(inner.still))?;
     Ok(entry)
 }
 
 /// Appends the code of at least `low` turns, and at most `high` where that is set.
 #[cycle(emit)]
+#[tactic(auto, unfolding(fancy_tree::specs::Sizes::nodes))]
 fn emit_repeat(
     code: &mut Emitter,
     meaning: Meaning,
     greedy: bool,
-    low: u32,
-    high: Option<u32>,
+    turns: Turns,
     body: &Tree,
     next: Entry,
 ) -> Result<Entry, AllocError>
-    requires small { repeat_nodes low high (nodes (pattern_of body.now)) < 2 ^ 64 }
-    ensures easy { IfOk result (λ _. is_easy (pattern_of body.now) ≡ true
-        → StaysEasy (emitted code.old) (emitted code.new)) }
-    ensures means { IfOk result (λ entry.
-        RepeatEmitted meaning greedy low high (pattern_of body.now) (len_of code.old)
-        (emitted code.new) next entry) }
-    ensures grows { IfOk result (λ _.
-        Appends (4 * repeat_nodes low high (nodes (pattern_of body.now))) code.old code.new) }
+    requires small { nodes (repeat turns.low turns.high (kind_of greedy) (pattern_of body.now))
+        < 2 ^ 64 }
+    ensures { IfOk result (λ entry.
+        Emits meaning (repeat turns.low turns.high (kind_of greedy) (pattern_of body.now))
+        code.old code.new next entry) }
 {
     let first_set = code.next_set;
-    let rest = match high {
+    let rest = match turns.high {
         None => emit_star(code, meaning, greedy, body, next)?,
         Some(high) => {
-            emit_optionals(code, meaning, greedy, high.saturating_sub(low), body, next)?
+            emit_optionals(
+                code,
+                meaning,
+                greedy,
+                high.saturating_sub(turns.low),
+                body,
+                next,
+            )?
         }
     };
-    let entry = emit_copies(code, meaning, low, body, first_set, rest)?;
+    let entry = emit_copies(code, meaning, turns.low, body, first_set, rest)?;
     Ok(entry)
 }
 
@@ -492,12 +495,8 @@ fn emit_sequence(
     next: Entry,
 ) -> Result<Entry, AllocError>
     requires small { sum_by nodes (map pattern_of parts.now) < 2 ^ 64 }
-    ensures easy { IfOk result (λ _. All (λ p. IsTrue (is_easy p)) (map pattern_of parts.now)
-        → StaysEasy (emitted code.old) (emitted code.new)) }
-    ensures means { IfOk result (λ entry.
-        Adds meaning (in_sequence (map pattern_of parts.now)) code.old code.new next entry) }
-    ensures grows { IfOk result (λ _.
-        Appends (4 * sum_by nodes (map pattern_of parts.now)) code.old code.new) }
+    ensures { IfOk result (λ entry.
+        Emits meaning (in_sequence (map pattern_of parts.now)) code.old code.new next entry) }
 {
     let mut entry = next;
     for i in (0..parts.len()).rev() {
@@ -515,12 +514,8 @@ fn emit_choice(
     next: Entry,
 ) -> Result<Entry, AllocError>
     requires small { nodes (in_choice (map pattern_of branches.now)) < 2 ^ 64 }
-    ensures easy { IfOk result (λ _. All (λ p. IsTrue (is_easy p)) (map pattern_of branches.now)
-        → StaysEasy (emitted code.old) (emitted code.new)) }
-    ensures means { IfOk result (λ entry.
-        Adds meaning (in_choice (map pattern_of branches.now)) code.old code.new next entry) }
-    ensures grows { IfOk result (λ _.
-        Appends (4 * nodes (in_choice (map pattern_of branches.now))) code.old code.new) }
+    ensures { IfOk result (λ entry.
+        Emits meaning (in_choice (map pattern_of branches.now)) code.old code.new next entry) }
 {
     if branches.is_empty() {
         let set = Set::empty(code.allocator());
@@ -548,12 +543,7 @@ fn compile_alone(
 ) -> Result<Code, AllocError>
     requires small { nodes (pattern_of tree.now) < 2 ^ 64 }
     requires numbered { Numbered 0 groups (pattern_of tree.now) }
-    ensures code { IfOk result (λ code. IsCodeOf (pattern_of tree.now) code) }
-    ensures easy { IfOk result (λ code. is_easy (pattern_of tree.now) ≡ true
-        → are_easy (instrs_of code) ≡ true) }
-    ensures short { IfOk result (λ code. code_len code ≤ 4 * nodes (pattern_of tree.now) + 2) }
-    ensures groups { IfOk result (λ code. code.groups ≡ groups) }
-    ensures meaning { IfOk result (λ code. code.meaning ≡ meaning) }
+    ensures { IfOk result (λ code. IsCompiled (pattern_of tree.now) groups meaning code) }
 {
     let mut code = Emitter::new(alloc);
     code.put(Instr::Match)?;

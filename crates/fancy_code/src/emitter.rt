@@ -1,6 +1,6 @@
 //! The code of a pattern while it is made.
 
-ghost use Rattle.std.specs.Prelude.{◌≡◌, ◌+◌, ◌<◌, IfOk, IfSome, IsTrue, true, length, slice_set, None};
+ghost use Rattle.std.specs.Prelude.{◌≡◌, ◌+◌, ◌<◌, IfOk, IfSome, IsTrue, true, length, slice_set, None, []};
 ghost use Rattle.fancy_tree.specs.Pattern.{member_of, backreference};
 ghost use Rattle.fancy_tree.specs.Members.{edges_of};
 ghost use Rattle.fancy_prefilter.specs.Prefilters.{branches_in};
@@ -40,13 +40,12 @@ pub(crate) struct Emitter {
 }
 
 impl Emitter {
-    ghost use Rattle.fancy_code.specs.Code.{instrs_of};
-    ghost use Rattle.fancy_code.specs.Emitted.{Adds, emitted, len_of, instr_by};
-    ghost use Rattle.fancy_code.specs.Compile.{Keeps, Has, HasBoth, StaysEasy, is_easy_instr};
+    ghost use Rattle.fancy_code.specs.Code.{IsMadeOf};
+    ghost use Rattle.fancy_code.specs.Emitted.{Emits, Puts, PutsBoth, PutsShared, emitted, len_of, instr_by};
 
     /// No instruction yet.
     pub(crate) fn new(alloc: Global) -> Emitter
-        ensures { len_of result ≡ 0 }
+        ensures { emitted result ≡ [] }
     {
         Emitter {
             instrs: Vec::new(alloc),
@@ -63,12 +62,8 @@ impl Emitter {
     /// One more instruction, and its number.
     pub(crate) fn put(&mut self, instr: Instr) -> Result<usize, AllocError>
         requires known { is_known (length self.old.sets.items) instr ≡ true }
-        ensures at { IfOk result (λ at. at ≡ len_of self.old) }
-        ensures length { IfOk result (λ _. len_of self.new ≡ len_of self.old + 1) }
-        ensures kept { IfOk result (λ _. Keeps (emitted self.old) (emitted self.new)) }
-        ensures easy { IfOk result (λ _. is_easy_instr (instr_by self.old instr) ≡ true
-            → StaysEasy (emitted self.old) (emitted self.new)) }
-        ensures stands { IfOk result (λ at. Has (emitted self.new) at (instr_by self.old instr)) }
+        ensures puts { IfOk result (λ at.
+            Puts (instr_by self.old instr) self.old self.new at) }
         ensures sets { self.new.sets ≡ self.old.sets }
     {
         let at = self.instrs.len();
@@ -79,14 +74,8 @@ impl Emitter {
     /// One more instruction, for both forms.
     pub(crate) fn put_shared(&mut self, instr: Instr) -> Result<Entry, AllocError>
         requires known { is_known (length self.old.sets.items) instr ≡ true }
-        ensures at { IfOk result (λ entry. entry.moved ≡ len_of self.old) }
-        ensures still { IfOk result (λ entry. entry.still ≡ entry.moved) }
-        ensures length { IfOk result (λ _. len_of self.new ≡ len_of self.old + 1) }
-        ensures kept { IfOk result (λ _. Keeps (emitted self.old) (emitted self.new)) }
-        ensures easy { IfOk result (λ _. is_easy_instr (instr_by self.old instr) ≡ true
-            → StaysEasy (emitted self.old) (emitted self.new)) }
-        ensures stands { IfOk result (λ entry.
-            Has (emitted self.new) entry.moved (instr_by self.old instr)) }
+        ensures { IfOk result (λ entry.
+            PutsShared (instr_by self.old instr) self.old self.new entry) }
     {
         let at = self.put(instr)?;
         Ok(Entry {
@@ -99,15 +88,8 @@ impl Emitter {
     pub(crate) fn put_both(&mut self, moved: Instr, still: Instr) -> Result<Entry, AllocError>
         requires moved_known { is_known (length self.old.sets.items) moved ≡ true }
         requires still_known { is_known (length self.old.sets.items) still ≡ true }
-        ensures moved_at { IfOk result (λ entry. entry.moved ≡ len_of self.old) }
-        ensures still_at { IfOk result (λ entry. entry.still ≡ len_of self.old + 1) }
-        ensures length { IfOk result (λ _. len_of self.new ≡ len_of self.old + 2) }
-        ensures kept { IfOk result (λ _. Keeps (emitted self.old) (emitted self.new)) }
-        ensures easy { IfOk result (λ _. is_easy_instr (instr_by self.old moved) ≡ true
-            → is_easy_instr (instr_by self.old still) ≡ true
-            → StaysEasy (emitted self.old) (emitted self.new)) }
-        ensures stands { IfOk result (λ entry.
-            HasBoth (emitted self.new) entry (instr_by self.old moved) (instr_by self.old still)) }
+        ensures { IfOk result (λ entry.
+            PutsBoth (instr_by self.old moved) (instr_by self.old still) self.old self.new entry) }
     {
         let moved = self.put(moved)?;
         let still = self.put(still)?;
@@ -121,11 +103,8 @@ impl Emitter {
         set: &Set,
         next: Entry,
     ) -> Result<Entry, AllocError>
-        ensures length { IfOk result (λ _. len_of self.new ≡ len_of self.old + 1) }
-        ensures kept { IfOk result (λ _. Keeps (emitted self.old) (emitted self.new)) }
-        ensures easy { IfOk result (λ _. StaysEasy (emitted self.old) (emitted self.new)) }
-        ensures means { IfOk result (λ entry.
-            Adds meaning (member_of (edges_of set.now)) self.old self.new next entry) }
+        ensures { IfOk result (λ entry.
+            Emits meaning (member_of (edges_of set.now)) self.old self.new next entry) }
     {
         let number = self.number_of(set)?;
         self.put_shared(Instr::Member(number, next.moved))
@@ -139,10 +118,8 @@ impl Emitter {
         group: usize,
         next: Entry,
     ) -> Result<Entry, AllocError>
-        ensures length { IfOk result (λ _. len_of self.new ≡ len_of self.old + 2) }
-        ensures kept { IfOk result (λ _. Keeps (emitted self.old) (emitted self.new)) }
-        ensures means { IfOk result (λ entry.
-            Adds meaning (backreference folded group) self.old self.new next entry) }
+        ensures { IfOk result (λ entry.
+            Emits meaning (backreference folded group) self.old self.new next entry) }
     {
         let moved = next.moved;
         let read = Instr::Recall {
@@ -230,11 +207,8 @@ impl Emitter {
         prefilter: Prefilter,
     ) -> Result<Code, AllocError>
         requires { branches_in prefilter.opening ≡ None }
-        ensures instrs { IfOk result (λ code. instrs_of code ≡ emitted self) }
-        ensures start { IfOk result (λ code. code.start ≡ start) }
-        ensures groups { IfOk result (λ code. code.groups ≡ groups) }
-        ensures meaning { IfOk result (λ code. code.meaning ≡ meaning) }
-        ensures prefilter { IfOk result (λ code. code.prefilter ≡ prefilter) }
+        ensures { IfOk result (λ code.
+            IsMadeOf (emitted self) start groups meaning prefilter code) }
     {
         Code::new(self.instrs, self.sets, start, groups, meaning, prefilter)
     }

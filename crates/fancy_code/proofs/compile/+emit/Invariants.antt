@@ -3,14 +3,12 @@ use Rattle.fancy_tree.specs.Pattern.{pattern_of, in_sequence, in_choice}
 use Rattle.fancy_tree.specs.Sizes.{nodes}
 use Rattle.fancy_code.specs.Compile.{StaysEasy, Emitted, BehindEmitted, CopiesEmitted, OptionalsEmitted}
 use Rattle.fancy_code.specs.Easy.{is_easy}
-use Rattle.fancy_code.specs.Emitted.{emitted, len_of, Appends}
+use Rattle.fancy_code.specs.Emitted.{Emits, emitted, len_of, Appends}
 use Rattle.fancy_code.proofs.compile.+emit.Given as goal
 
 abbrev pub invariant-emit_choice-loop-i : goal.invariant-emit_choice-loop-i
 invariant-emit_choice-loop-i l = record {
-  easy : All (λ p. IsTrue (is_easy p)) (map pattern_of l.branches) → StaysEasy (emitted l.fn.code) (emitted l.code);
-  means : Emitted l.meaning (in_choice (map pattern_of (drop l.i l.branches))) (len_of l.fn.code) (emitted l.code) l.next l.entry;
-  grows : Appends (4 * nodes (in_choice (map pattern_of (drop l.i l.branches)))) l.fn.code l.code;
+  emits : Emits l.meaning (in_choice (map pattern_of (drop l.i l.branches))) l.fn.code l.code l.next l.entry;
   within : l.i < length l.branches;
 }
 

@@ -1,25 +1,42 @@
-use Rattle.std.proofs.Common.{rules, arith, ℕ, ◌+◌, ◌≡◌, sym, ap, ◌∙◌, true≢false}
+use Rattle.std.proofs.Common.{rules, arith, List, length, ◌+◌, ◌≡◌, refl, sym, ap, ◌∙◌, true≢false}
+use Rattle.std.proofs.lemmas.List.{length-map}
 use Rattle.fancy_prefilter.specs.declared.prefilter.Prefilter.{Prefilter}
+use Rattle.fancy_code.specs.Compile.{are_easy}
+use Rattle.fancy_code.specs.Instructions.{Instruction, with_set}
 use Rattle.fancy_code.specs.Instructions as i
 use Rattle.fancy_code.proofs.compile.compile_alone.Goals as goal
 
-pub returns-clause-code : goal.returns-clause-code
-returns-clause-code c = record {
-  entry = c.in_ok-entry.entry;
-  means = search rules;
-  begins = sym c.in_ok-code.ensures.start;
-  matching =
-      let start : c.in_ok-put.field-0 ≡ 0 = c.in_ok-put.ensures.at ∙ c.new-code.ensures in
-      rw c.in_ok-code.ensures.instrs
-      (c.in_ok-entry.ensures.grows.0 0 i.Match (omega arith) (c.in_ok-put-2.ensures.kept 0 i.Match (omega arith) (rw start at c.in_ok-put.ensures.stands)));
-  failing =
-      let second : c.in_ok-put-2.field-0 ≡ 1 = c.in_ok-put-2.ensures.at ∙ c.in_ok-put.ensures.length ∙ ap (λ (n : ℕ). n + 1) c.new-code.ensures in
-      rw c.in_ok-code.ensures.instrs
-      (c.in_ok-entry.ensures.grows.0 1 i.Fail (omega arith) (rw second at c.in_ok-put-2.ensures.stands));
-  numbered = search rules;
-  starts = rw (c.in_ok-code.ensures.meaning, c.in_ok-code.ensures.prefilter) c.in_ok-prefilter.ensures.starts;
-  opens = rw (c.in_ok-code.ensures.meaning, c.in_ok-code.ensures.prefilter) c.in_ok-prefilter.ensures.text;
-  foretold = rw (c.in_ok-code.ensures.prefilter, c.in_ok-prefilter.ensures.window) tt;
-  branched = rw (c.in_ok-code.ensures.prefilter, c.in_ok-prefilter.ensures.branches) tt;
-  anchored = λ e. absurd (true≢false (sym e ∙ ap (λ (f : Prefilter). f.only_at_start) c.in_ok-code.ensures.prefilter ∙ c.in_ok-prefilter.ensures.anchored));
+pub returns : goal.returns
+returns c = record {
+  code = record {
+    entry = c.in_ok-entry.entry;
+    means = search rules;
+    begins = sym c.in_ok-code.ensures.start;
+    matching =
+        let start : c.in_ok-put.field-0 ≡ 0 = c.in_ok-put.ensures.puts.at ∙ ap length c.new-code.ensures in
+        rw c.in_ok-code.ensures.instrs
+        (c.in_ok-entry.ensures.grows.0 0 i.Match (omega arith) (c.in_ok-put-2.ensures.puts.kept 0 i.Match (omega arith) (rw start at c.in_ok-put.ensures.puts.stands)));
+    failing =
+        let second : c.in_ok-put-2.field-0 ≡ 1 = c.in_ok-put-2.ensures.puts.at ∙ c.in_ok-put.ensures.puts.length ∙ ap (λ (is : List Instruction). length is + 1) c.new-code.ensures in
+        rw c.in_ok-code.ensures.instrs
+        (c.in_ok-entry.ensures.grows.0 1 i.Fail (omega arith) (rw second at c.in_ok-put-2.ensures.puts.stands));
+    numbered = search rules;
+    starts = rw (c.in_ok-code.ensures.meaning, c.in_ok-code.ensures.prefilter) c.in_ok-prefilter.ensures.starts;
+    opens = rw (c.in_ok-code.ensures.meaning, c.in_ok-code.ensures.prefilter) c.in_ok-prefilter.ensures.text;
+    foretold = rw (c.in_ok-code.ensures.prefilter, c.in_ok-prefilter.ensures.window) tt;
+    branched = rw (c.in_ok-code.ensures.prefilter, c.in_ok-prefilter.ensures.branches) tt;
+    anchored = λ e. absurd (true≢false (sym e ∙ ap (λ (f : Prefilter). f.only_at_start) c.in_ok-code.ensures.prefilter ∙ c.in_ok-prefilter.ensures.anchored));
+  };
+  easy = λ is. rw c.in_ok-code.ensures.instrs (c.in_ok-entry.ensures.easy is (c.in_ok-put-2.ensures.puts.easy refl (c.in_ok-put.ensures.puts.easy refl (ap are_easy c.new-code.ensures))));
+  short = omega (
+    arith,
+    ap length c.in_ok-code.ensures.instrs,
+    length-map c.in_ok-code.code.instrs.items (with_set c.in_ok-code.code.sets.items),
+    ap length c.new-code.ensures,
+    c.in_ok-put.ensures.puts.length,
+    c.in_ok-put-2.ensures.puts.length,
+    c.in_ok-entry.ensures.grows.2,
+  );
+  groups = c.in_ok-code.ensures.groups;
+  meaning = c.in_ok-code.ensures.meaning;
 }

@@ -1,6 +1,6 @@
-use Rattle.std.proofs.Common.{◌≡◌, ℕ, List, [], ◌∷◌, ◌++◌, length, sym, subst, arith}
+use Rattle.std.proofs.Common.{rules, ◌≡◌, ℕ, List, [], ◌∷◌, ◌++◌, length, sym, subst, ap, arith}
 use Rattle.std.specs.Prelude.{is_ok}
-use Rattle.std.proofs.lemmas.List.{length-map}
+use Rattle.std.proofs.lemmas.List.{length-append, length-map}
 use Rattle.fancy_code.specs.Emitted.{emitted, instr_by}
 use Rattle.fancy_code.specs.Instructions.{Instruction, with_set}
 use Rattle.fancy_code.specs.Compile.{Has, Keeps}
@@ -12,21 +12,17 @@ use Rattle.fancy_code.proofs.emitter.Emitter.put.Goals as goal
 pub invariant_of-self : goal.invariant_of-self
 invariant_of-self c = record { known = known_pushed (is_ok c.push.result) _ c.args.self.now.instrs.items _ c.args.instr c.push.ensures.items c.args.self.now.known c.requires.known }
 
-pub returns-clause-kept : goal.returns-clause-kept
-returns-clause-kept c =
-    subst (λ (l : List Instruction). Keeps (emitted c.args.self.now) l)
-    (sym (with_sets-put c.args.self.now.sets.items c.args.self.now.instrs.items _ c.args.instr c.in_ok-push.ensures.items))
-    (keeps_append (emitted c.args.self.now) (instr_by c.args.self.now c.args.instr ∷ []))
-
-pub returns-clause-easy : goal.returns-clause-easy
-returns-clause-easy c =
-    easy_put (emitted c.args.self.now) _ (instr_by c.args.self.now c.args.instr)
-    (with_sets-put c.args.self.now.sets.items c.args.self.now.instrs.items _ c.args.instr c.in_ok-push.ensures.items)
-
-pub returns-clause-stands : goal.returns-clause-stands
-returns-clause-stands c =
+pub returns-clause-puts : goal.returns-clause-puts
+returns-clause-puts c =
     let own = c.args.self.now in
     let last = instr_by own c.args.instr in
+    let now = with_sets-put own.sets.items own.instrs.items _ c.args.instr c.in_ok-push.ensures.items in
     let same : length (emitted own) ≡ c.len-at.result = omega (arith, c.len-at.ensures, own.instrs.ok.0, length-map own.instrs.items (with_set own.sets.items)) in
-    subst (λ (l : List Instruction). Has l c.len-at.result last) (sym (with_sets-put own.sets.items own.instrs.items _ c.args.instr c.in_ok-push.ensures.items))
-    (subst (λ (q : ℕ). Has (emitted own ++ last ∷ []) q last) same (get_append_seam (emitted own) [] last))
+    record {
+      at = search rules;
+      length = omega (arith, ap length now, length-append (emitted own) (last ∷ []));
+      kept = subst (λ (l : List Instruction). Keeps (emitted own) l) (sym now) (keeps_append (emitted own) (last ∷ []));
+      stands = subst (λ (l : List Instruction). Has l c.len-at.result last) (sym now)
+          (subst (λ (q : ℕ). Has (emitted own ++ last ∷ []) q last) same (get_append_seam (emitted own) [] last));
+      easy = easy_put (emitted own) _ last now;
+    }
