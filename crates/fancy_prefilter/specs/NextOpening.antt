@@ -1,5 +1,5 @@
 -- Where a search goes on to, by all that tells where no match starts.
-use Rattle.std.specs.Prelude.{◌≡◌, ℕ, ◌+◌, ◌<◌, ◌≤◌, true, List}
+use Rattle.std.specs.Prelude.{◌≡◌, ℕ, ◌+◌, ◌<◌, ◌≤◌, true, List, slice_index}
 use Rattle.fancy_bytes.specs.Openings.{StandsBefore}
 use Rattle.fancy_prefilter.specs.Windows.{StandsFrom}
 use Rattle.fancy_prefilter.specs.KeyTables.{NoneMayStand}
@@ -14,6 +14,10 @@ LacksOpening Untold haystack range_end p = ⊥
 LacksOpening (Text text) haystack range_end p = ¬ StandsBefore haystack range_end text p
 LacksOpening (Window sets) haystack range_end p = ¬ StandsFrom sets haystack range_end 0 p
 LacksOpening (Words b) haystack range_end p = NoneMayStand b.table haystack range_end p
+
+-- what each match opens with stands nowhere so many places before this byte
+abbrev pub IsRuledOut : Opening → ℕ → ℕ → Type 0
+IsRuledOut o place byte = (haystack : List ℕ) (range_end p : ℕ) → slice_index haystack (p + place) ≡ byte → LacksOpening o haystack range_end p
 
 -- no match starts at p: by its first byte, since it would start past the text's start, or by what it opens with
 pub data StartsNot (f : Prefilter) (haystack : List ℕ) (range_end p : ℕ) : Type 0 where

@@ -1,6 +1,6 @@
 //! The scan for the text that each match begins with.
 
-ghost use Rattle.std.specs.Prelude.{◌≡◌, ℕ, ◌+◌, ◌<◌, ◌≤◌, List, length, IfOk, IfSome, MatchOption};
+ghost use Rattle.std.specs.Prelude.{◌≡◌, ℕ, ◌+◌, ◌<◌, ◌≤◌, List, false, length, slice_index, IfOk, IfSome, MatchOption};
 ghost use Rattle.fancy_tree.specs.Pattern.{pattern_of};
 ghost use Rattle.memchr.specs.Pairs.{IsPairFinderOf};
 ghost use Rattle.fancy_bytes.specs.Openings.{opening, StandsBefore, NoneStandsBefore};
@@ -32,6 +32,14 @@ impl Model for Literal {
 }
 
 impl Literal {
+    /// Whether this byte may stand at a place of the text. At a place past the text any byte may.
+    pub fn may_hold(&self, place: usize, byte: u8) -> bool
+        ensures { result ≡ false → (haystack : List ℕ) (end p : ℕ) → slice_index haystack (p + place) ≡ byte
+            → ¬ StandsBefore haystack end self.now p }
+    {
+        place >= self.text.len() || self.text[place] == byte
+    }
+
     /// The first place, from the one on, where the text stands before the end. The first place of all is looked at by itself, since
     /// most searches of a list begin where the text stands.
     pub fn next_seen(&self, haystack: &[u8], from: usize, end: usize) -> Option<usize>

@@ -26,6 +26,27 @@ pub enum Opening {
     Words(Branches),
 }
 
+impl Opening {
+    ghost use Rattle.fancy_prefilter.specs.NextOpening.{IsRuledOut};
+
+    /// Whether a match may begin so many places, 0 or more, before this byte. Where nothing is told of the place, it may.
+    ///
+    /// ```text
+    /// opening.may_hold(1, b'b')    // of the text `abc` true
+    /// opening.may_hold(1, b'c')    // false
+    /// opening.may_hold(3, b'c')    // true: the text has three bytes
+    /// ```
+    pub fn may_hold(&self, place: usize, byte: u8) -> bool
+        ensures { result ≡ false → IsRuledOut self.now place byte }
+    {
+        match self {
+            Opening::Untold | Opening::Words(_) => true,
+            Opening::Text(text) => text.may_hold(place, byte),
+            Opening::Window(window) => window.may_hold(place, byte),
+        }
+    }
+}
+
 /// What tells where matches may begin.
 #[derive(Drop)]
 pub struct Prefilter {

@@ -3,7 +3,7 @@
 //! Probes tell of 32 windows at once in which of them the sets may all stand, and each of these is looked at by the sets. The
 //! last places of a haystack, where fewer windows are left, are gone through by skips.
 
-ghost use Rattle.std.specs.Prelude.{◌≡◌, ◌↔◌, ℕ, ◌+◌, ◌<◌, ◌≤◌, List, length, IfOk, IfSome, IsTrue, MatchOption};
+ghost use Rattle.std.specs.Prelude.{◌≡◌, ◌↔◌, ℕ, ◌+◌, ◌<◌, ◌≤◌, List, false, length, slice_index, IfOk, IfSome, IsTrue, MatchOption};
 ghost use Rattle.fancy_bytes.specs.Sets.{ByteFlags};
 ghost use Rattle.fancy_prefilter.specs.Windows.{StandsFrom, NoneStandsIn, IsSkip, AreSkips};
 ghost use Rattle.fancy_prefilter.specs.HalfTables.{AreMarks};
@@ -77,6 +77,14 @@ impl Window {
             skips,
             probes,
         }))
+    }
+
+    /// Whether this byte may stand at a place of the window. At a place past the window any byte may.
+    pub fn may_hold(&self, place: usize, byte: u8) -> bool
+        ensures { result ≡ false → (haystack : List ℕ) (end p : ℕ) → slice_index haystack (p + place) ≡ byte
+            → ¬ StandsFrom self.now haystack end 0 p }
+    {
+        place >= self.sets.len() || self.sets[place].contains(byte)
     }
 
     /// Whether a byte of each set stands in the window that begins at a place.
