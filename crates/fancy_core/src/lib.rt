@@ -12,3 +12,4 @@ mod replace;
 pub mod replacer;
 mod rewriting;
 pub mod split;
+pub mod starts;

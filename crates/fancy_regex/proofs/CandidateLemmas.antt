@@ -1,17 +1,17 @@
 -- Groups of members as the bits of a number, and the members in them.
-use Rattle.std.proofs.Common.{◌≡◌, ℕ, zero, suc, ◌+◌, ◌-◌, ◌*◌, ◌^◌, ◌/◌, ◌%◌, ◌<◌, ◌≤◌, ◌==◌, ◌||◌, max, true, false, List, Option, None, Some, MatchOption, length, slice_get, slice_index_or, slice_set, bit_or, inl, inr, refl, sym, ap, subst, ◌∙◌, arith, eq-eqb, ne_eqb, true≢false, le_refl, get_or-set_same, get_or-set_other}
+use Rattle.std.proofs.Common.{◌≡◌, ℕ, zero, suc, ◌+◌, ◌-◌, ◌*◌, ◌^◌, ◌/◌, ◌%◌, ◌<◌, ◌≤◌, ◌==◌, ◌&&◌, ◌||◌, ◌⊎◌, max, min, Bool, true, false, List, Option, None, Some, IfSome, MatchOption, length, slice_get, slice_index_or, slice_set, bit_and, bit_or, inl, inr, refl, sym, ap, subst, ◌∙◌, arith, eq-eqb, ne_eqb, true≢false, le_refl, get_or-set_same, get_or-set_other}
 use Rattle.std.specs.Int.{bit_at, w128, trailing_zeros}
 use Rattle.std.proofs.Math.Bool.{or-true, or-false}
 use Rattle.std.proofs.lemmas.Bool.{cases_eq}
 use Rattle.std.proofs.lemmas.Bool.Decides.{leb_tells, nat_tests}
 use Rattle.std.proofs.lemmas.Option.{slice_get_within}
 use Rattle.std.proofs.lemmas.Nat.{div-add-mod', mod_below, div_below, le-div, pow_pos, mul-le}
-use Rattle.std.proofs.lemmas.Nat.Bits.{bit_at-zero, bit_at_set_same, bit_at_set_other, bit_at_above, bit_at_cat_high, bit_at-trailing_zeros}
+use Rattle.std.proofs.lemmas.Nat.Bits.{bit_at-zero, bit_at_set_same, bit_at_set_other, bit_at_above, bit_at_cat_high, bit_at-trailing_zeros, bit_at_and, bit_at-lt}
 use Rattle.fancy_core.specs.declared.regex.Regex.{Regex}
-use Rattle.fancy_core.specs.RegexStarts.{regex_may_start}
+use Rattle.fancy_core.specs.RegexStarts.{regex_may_start, NoneHolds}
 use Rattle.fancy_regex.specs.declared.set.candidates.Groups.{Groups}
 use Rattle.fancy_regex.specs.declared.set.candidates.Candidates.{Candidates}
-use Rattle.fancy_regex.specs.Candidates.{has_group, NoGroupFrom, IsNextGroup, HoldAll, HoldOnly, AreCandidatesOf, NoMemberBetween, IsNextMember}
+use Rattle.fancy_regex.specs.Candidates.{has_group, groups_before, NoGroupFrom, IsNextGroup, HoldAll, HoldAhead, HoldAllAt, HoldOnly, by_byte, by_later, NoMemberBetween, IsNextMember}
 
 -- the bits of a number from one on are those of the number shifted
 shifted : (n k i : ℕ) → k ≤ i → bit_at n i ≡ bit_at (n / 2 ^ k) (i - k)
@@ -35,6 +35,19 @@ one_more_there bits k within g =
       | inl same ↦ rw same (is_set _ (bit_at_set_same w128 bits k within) ∙ sym (ap (λ t. (bit_at bits k == 1) || t) (eq-eqb k k refl) ∙ or-true (bit_at bits k == 1)))
       | inr other ↦ ap (λ v. v == 1) (bit_at_set_other w128 bits k within g other) ∙ sym (ap (λ t. (bit_at bits g == 1) || t) (ne_eqb g k other) ∙ or-false (bit_at bits g == 1))
     ]
+
+min_one : (x y : ℕ) → x < 2 → y < 2 → (min x y == 1) ≡ ((x == 1) && (y == 1))
+min_one zero zero a b = refl
+min_one zero (suc zero) a b = refl
+min_one zero (suc (suc y)) a b = absurd (omega (arith, b))
+min_one (suc zero) zero a b = refl
+min_one (suc zero) (suc zero) a b = refl
+min_one (suc zero) (suc (suc y)) a b = absurd (omega (arith, b))
+min_one (suc (suc x)) y a b = absurd (omega (arith, a))
+
+pub both_there : (a b g : ℕ) → has_group (record { bits = bit_and a b }) g ≡ (has_group (record { bits = a }) g && has_group (record { bits = b }) g)
+unfolding has_group
+both_there a b g = ap (λ x. x == 1) (bit_at_and a b g) ∙ min_one (bit_at a g) (bit_at b g) (bit_at-lt a g) (bit_at-lt b g)
 
 pub past_the_last : (groups : Groups) (from : ℕ) → groups.bits < 2 ^ 128 → 128 ≤ from → NoGroupFrom groups from
 unfolding has_group
@@ -168,6 +181,69 @@ module _ (width : ℕ) (members : List Regex) (next : Option ℕ) (n : ℕ) (r :
 pub hold_all : (width : ℕ) (members : List Regex) (next : Option ℕ) (n : ℕ) (groups : Groups) → length members ≤ n → HoldFirst width members next n groups → HoldAll width members next groups
 hold_all width members next n groups all hold k r is starts = hold k r (let inside = slice_get_within members k r is in omega (arith, inside, all)) is starts
 
+left_of : (a b : Bool) → (a || b) ≡ false → a ≡ false
+left_of true b e = e
+left_of false b e = refl
+
+-- each of the first n members that is in none of the groups is easy, and no match of it starts so many places before this byte
+abbrev pub HoldFirstAhead : ℕ → List Regex → ℕ → ℕ → ℕ → Groups → Type 0
+HoldFirstAhead width members place byte n groups =
+    (k : ℕ) (r : Regex) → k < n → slice_get members k ≡ Some r → has_group groups (k / width) ≡ false → NoneHolds r place byte
+
+module _ (width : ℕ) (members : List Regex) (place byte n : ℕ) (r : Regex) (here : slice_get members n ≡ Some r) where
+  -- one more of which none starts there
+  pub one_left_out : (groups : Groups) → NoneHolds r place byte → HoldFirstAhead width members place byte n groups → HoldFirstAhead width members place byte (n + 1) groups
+  one_left_out groups never hold k x below is out =
+      elim (leb_tells n k) [
+        | inl past ↦ (
+            let same : k ≡ n = omega (arith, past.1, below) in
+            let both : Some x ≡ Some r = sym is ∙ ap (slice_get members) same ∙ here in
+            let equal : r ≡ x = cc in
+            subst (λ (y : Regex). NoneHolds y place byte) equal never)
+        | inr before ↦ hold k x before.1 is out
+      ]
+
+  -- one more of which one may
+  pub one_held : (before after : Groups) → ((g : ℕ) → has_group after g ≡ (has_group before g || (g == n / width))) → HoldFirstAhead width members place byte n before
+      → HoldFirstAhead width members place byte (n + 1) after
+  one_held before after adds hold k x below is out =
+      elim (leb_tells n k) [
+        | inl past ↦ (
+            let same : k ≡ n = omega (arith, past.1, below) in
+            let there : has_group after (k / width) ≡ true = adds (k / width)
+            ∙ ap (λ b. has_group before (k / width) || b) (eq-eqb (k / width) (n / width) (ap (λ j. j / width) same))
+            ∙ or-true (has_group before (k / width)) in
+            absurd (true≢false (sym there ∙ out)))
+        | inr earlier ↦ hold k x earlier.1 is (left_of (has_group before (k / width)) (k / width == n / width) (sym (adds (k / width)) ∙ out))
+      ]
+
+pub all_held : (width : ℕ) (members : List Regex) (place byte n : ℕ) (groups : Groups) → length members ≤ n → HoldFirstAhead width members place byte n groups
+    → HoldAhead width members place byte groups
+all_held width members place byte n groups all hold k r is out = hold k r (let inside = slice_get_within members k r is in omega (arith, inside, all)) is out
+
+either_out : (a b : Bool) → (a && b) ≡ false → (a ≡ false) ⊎ (b ≡ false)
+either_out true b e = inr e
+either_out false b e = inl refl
+
+never : (b : Bool) → (b ≡ true → ⊥) → b ≡ false
+never true unless = absurd (unless refl)
+never false unless = refl
+
+module _ (width : ℕ) (members : List Regex) (searched : List ℕ) (p : ℕ) where
+  -- the groups by the byte at the position
+  pub first_place : (groups : Groups) → HoldAll width members (slice_get searched p) groups → HoldAllAt width members searched p groups
+  first_place groups all k r is out =
+      by_byte (never (regex_may_start r (slice_get searched p)) (λ starts. true≢false (sym (all k r is starts) ∙ out)))
+
+  -- the groups that are left by a byte further on
+  pub one_place : (place byte : ℕ) (before others after : Groups) → slice_get searched (p + place) ≡ Some byte → HoldAhead width members place byte others
+      → ((g : ℕ) → has_group after g ≡ (has_group before g && has_group others g)) → HoldAllAt width members searched p before → HoldAllAt width members searched p after
+  one_place place byte before others after there ahead both hold k r is out =
+      elim (either_out (has_group before (k / width)) (has_group others (k / width)) (sym (both (k / width)) ∙ out)) [
+        | inl first ↦ hold k r is first
+        | inr later ↦ by_later place byte there (ahead k r is later)
+      ]
+
 -- one more place of a table that is as it should be
 pub table_step : (table : List Groups) (P : ℕ → Groups → Type 0) (i : ℕ) (v d : Groups) → i < length table → P i v → ((k : ℕ) → k < i → P k (slice_index_or table k d))
     → (k : ℕ) → k < i + 1 → P k (slice_index_or (slice_set table i v) k d)
@@ -177,7 +253,8 @@ table_step table P i v d within is below k lt =
       | inr other ↦ subst (P k) (sym (get_or-set_other table i k v d other)) (below k (omega (arith, lt, other)))
     ]
 
-pub listed : (members : List Regex) (c : Candidates) → HoldAll c.width members None c.at_end
-    → ((b : ℕ) → b < 256 → HoldAll c.width members (Some b) (slice_index_or c.by_byte b c.at_end)) → AreCandidatesOf members c
-listed members c end bytes None small = end
-listed members c end bytes (Some b) small = bytes b small
+-- the groups for each byte, and for none
+pub first_listed : (members : List Regex) (c : Candidates) → HoldAll c.width members None c.at_end
+    → ((b : ℕ) → b < 256 → HoldAll c.width members (Some b) (slice_index_or c.by_byte b c.at_end)) → (next : Option ℕ) → IfSome next (λ b. b < 256) → HoldAll c.width members next (groups_before c next)
+first_listed members c end bytes None small = end
+first_listed members c end bytes (Some b) small = bytes b small

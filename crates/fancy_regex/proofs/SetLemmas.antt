@@ -99,14 +99,18 @@ module _ (q : SetQuery) where
   stands_not_nowhere p some none = let e : Some p ≡ None = sym some ∙ none in cc
 
   -- one position more that was passed
-  pub passed_more : {A : Type 0} (p : ℕ) (answer : Option A) → ((x : A) → answer ≡ Some x → ⊥) → IfNone answer (NoneBetween q p 0 (length q.members))
-      → ((j : ℕ) → effective_start q.request ≤ j → j < p → any_answer_at q j ≡ false) → (j : ℕ) → effective_start q.request ≤ j → j < p + 1 → any_answer_at q j ≡ false
-  passed_more p (Some x) unless none passed j from below = absurd (unless x refl)
-  passed_more p None unless none passed j from below =
+  pub passed_one : (p : ℕ) → NoneBetween q p 0 (length q.members) → ((j : ℕ) → effective_start q.request ≤ j → j < p → any_answer_at q j ≡ false)
+      → (j : ℕ) → effective_start q.request ≤ j → j < p + 1 → any_answer_at q j ≡ false
+  passed_one p none passed j from below =
       elim (leb_tells p j) [
         | inl here ↦ (let le = here.1 in let same : p ≡ j = omega (arith, le, below) in subst (λ (x : ℕ). any_answer_at q x ≡ false) same (none_anywhere q p none))
         | inr before ↦ passed j from before.1
       ]
+
+  pub passed_more : {A : Type 0} (p : ℕ) (answer : Option A) → ((x : A) → answer ≡ Some x → ⊥) → IfNone answer (NoneBetween q p 0 (length q.members))
+      → ((j : ℕ) → effective_start q.request ≤ j → j < p → any_answer_at q j ≡ false) → (j : ℕ) → effective_start q.request ≤ j → j < p + 1 → any_answer_at q j ≡ false
+  passed_more p (Some x) unless none passed = absurd (unless x refl)
+  passed_more p None unless none passed = passed_one p none passed
 
 module _ {S : Type 0} {g : _} (q : SetQuery) (haystack : S) (p k : ℕ) where
   pub stands_first : (captures : Captures S g) → IsFirstOfSet q haystack p k (Ok captures) → set_position q ≡ Some p

@@ -1,12 +1,13 @@
 -- The longest match at a place, as the members are gone through.
-use Rattle.std.proofs.Common.{◌≡◌, ℕ, ◌+◌, ◌<◌, ◌≤◌, false, Option, Some, None, slice_get, take, length, inl, inr, refl, sym, ap, subst, ◌∙◌, arith, true≢false}
+use Rattle.std.proofs.Common.{◌≡◌, ℕ, ◌+◌, ◌<◌, ◌≤◌, false, List, Option, Some, None, slice_get, slice_index, take, length, inl, inr, refl, sym, ap, subst, ◌∙◌, arith, true≢false}
 use Rattle.std.proofs.lemmas.Bool.Decides.{leb_tells}
 use Rattle.std.proofs.lemmas.Option.{same_Some}
 use Rattle.fancy_code.specs.Search.{Answer}
+use Rattle.fancy_core.specs.Limited.{AllowsAt}
 use Rattle.fancy_core.specs.RegexStarts.{regex_may_start}
 use Rattle.fancy_regex.specs.declared.tokens.token.Token.{Token}
-use Rattle.fancy_regex.specs.Candidates.{NoStarterBetween}
-use Rattle.fancy_regex.specs.SetMembers.{SetQuery}
+use Rattle.fancy_regex.specs.Candidates.{IsPassed, by_byte, by_later, NoStarterBetween}
+use Rattle.fancy_regex.specs.SetMembers.{SetQuery, asked}
 use Rattle.fancy_regex.specs.TokenLists.{token_pattern}
 use Rattle.fancy_regex.specs.Tokens.{TokenItem, placed_at, found_by_member, candidate_at, token_at, KeepLimits, KeepsLimitAt}
 use Rattle.fancy_regex.specs.LongestMatches.{IsTokenTo, IsLongest, IsLongestIfAny, IsTokenGiven}
@@ -104,13 +105,13 @@ module _ {S : Type 0} {g : _} (q : SetQuery) (haystack : S) (p : ℕ) where
   pub none_gone : (end : ℕ) (o : Option (Token S g)) → o ≡ None → IsLongestIfAny q haystack p (length q.members) end o → token_at q p ≡ None
   none_gone end o e all = no_token q p (subst (λ x. IsLongestIfAny q haystack p (length q.members) end x) e all).1
 
-  -- members that may not start there
-  pub passed_over : (next : Option ℕ) → next ≡ slice_get (take q.request.range_end q.haystack) p → (n m end : ℕ) (o : Option (Token S g)) → n ≤ m → NoStarterBetween q.members next n m
-      → IsLongestIfAny q haystack p n end o → IsLongestIfAny q haystack p m end o
-  passed_over next there n m end o le none is =
+  -- members that are not asked there
+  pub passed_over : (searched : List ℕ) → searched ≡ take q.request.range_end q.haystack → ((k : ℕ) → slice_index q.haystack k < 256) → q.request.range_end ≤ length q.haystack → p ≤ q.request.range_end
+      → (n m end : ℕ) (o : Option (Token S g)) → n ≤ m → NoStarterBetween q.members searched p n m → IsLongestIfAny q haystack p n end o → IsLongestIfAny q haystack p m end o
+  passed_over searched there bytes inside ends n m end o le none is =
       passed_to n m end o le
       (λ k u from below offers.
-      let fails = none_starts (placed_at q p) p next there n m none k from below in
+      let fails = none_starts (placed_at q p) p searched there bytes inside ends n m none k from below in
       let no : candidate_at q p k ≡ None = not_found q p k (fails_there q p k fails) in
       absurd (let e : Some u ≡ None = sym offers ∙ no in cc))
       is
@@ -126,11 +127,15 @@ module _ (q : SetQuery) (p : ℕ) where
         | inr before ↦ keep k r before.1 is may
       ]
 
-  pub limits_over : (next : Option ℕ) → next ≡ slice_get (take q.request.range_end q.haystack) p → (n m : ℕ) → NoStarterBetween q.members next n m → KeepLimits q p n → KeepLimits q p m
-  limits_over next there n m none keep k r below is may =
+  pub limits_over : (searched : List ℕ) → searched ≡ take q.request.range_end q.haystack → (n m : ℕ) → NoStarterBetween q.members searched p n m → KeepLimits q p n → KeepLimits q p m
+  limits_over searched there n m none keep k r below is may =
       elim (leb_tells n k) [
-        | inl later ↦ absurd (
-            let out : regex_may_start r (slice_get (take q.request.range_end q.haystack) p) ≡ false = subst (λ (o : Option ℕ). regex_may_start r o ≡ false) there (none k r later.1 below is) in
-            true≢false (sym may ∙ out))
+        | inl later ↦ by (none k r later.1 below is)
         | inr before ↦ keep k r before.1 is may
       ]
+    where
+      by : IsPassed r searched p → AllowsAt r (asked (placed_at q p) r) p
+      by (by_byte fails) = absurd (
+          let out : regex_may_start r (slice_get (take q.request.range_end q.haystack) p) ≡ false = subst (λ (s : List ℕ). regex_may_start r (slice_get s p) ≡ false) there fails in
+          true≢false (sym may ∙ out))
+      by (by_later place byte stands holds) = λ hard. absurd (true≢false (sym holds.easy ∙ hard))

@@ -1,8 +1,8 @@
--- Which members of a pattern set may begin right before a byte. Neighbours share a group: the member with index k is in the group k / width.
-use Rattle.std.specs.Prelude.{◌≡◌, ◌≤◌, ◌<◌, ◌/◌, ◌==◌, ℕ, Bool, true, false, List, Option, Some, None, IfSome, length, slice_get, slice_index_or}
+-- Which members of a pattern set may begin at a position, by the bytes there. Neighbours share a group: the member with index k is in the group k / width.
+use Rattle.std.specs.Prelude.{◌≡◌, ◌≤◌, ◌<◌, ◌+◌, ◌/◌, ◌==◌, ℕ, Bool, true, false, List, Option, Some, None, IfSome, length, slice_get, slice_index_or}
 use Rattle.std.specs.Int.{bit_at}
 use Rattle.fancy_core.specs.declared.regex.Regex.{Regex}
-use Rattle.fancy_core.specs.RegexStarts.{regex_may_start}
+use Rattle.fancy_core.specs.RegexStarts.{regex_may_start, NoneHolds}
 use Rattle.fancy_regex.specs.declared.set.candidates.Groups.{Groups}
 use Rattle.fancy_regex.specs.declared.set.candidates.Candidates.{Candidates}
 
@@ -42,9 +42,30 @@ abbrev pub groups_before : Candidates → Option ℕ → Groups
 groups_before c None = c.at_end
 groups_before c (Some byte) = slice_index_or c.by_byte byte c.at_end
 
--- the table has the groups of all these members, for each byte and for none
-abbrev pub AreCandidatesOf : List Regex → Candidates → Type 0
-AreCandidatesOf members c = (next : Option ℕ) → IfSome next (λ b. b < 256) → HoldAll c.width members next (groups_before c next)
+-- each member that is in none of the groups is easy, and no match of it starts so many places before this byte
+abbrev pub HoldAhead : ℕ → List Regex → ℕ → ℕ → Groups → Type 0
+HoldAhead width members place byte groups = (k : ℕ) (r : Regex) → slice_get members k ≡ Some r → has_group groups (k / width) ≡ false → NoneHolds r place byte
+
+-- the groups for each byte
+pub record AreHolders (width : ℕ) (members : List Regex) (place : ℕ) (by_byte : List Groups) : Type 0 where
+  pub all : length by_byte ≡ 256
+  pub each : (byte : ℕ) (none : Groups) → byte < 256 → HoldAhead width members place byte (slice_index_or by_byte byte none)
+
+-- the tables have the groups of all these members, for each byte and for none
+pub record AreCandidatesOf (members : List Regex) (c : Candidates) : Type 0 where
+  pub first : (next : Option ℕ) → IfSome next (λ b. b < 256) → HoldAll c.width members next (groups_before c next)
+  pub second : AreHolders c.width members 1 c.second
+  pub third : AreHolders c.width members 2 c.third
+  pub fourth : AreHolders c.width members 3 c.fourth
+
+-- A member is not asked at p: no match of it starts with the byte there; or it is easy, and none starts so many places before a byte further on.
+pub data IsPassed (r : Regex) (searched : List ℕ) (p : ℕ) : Type 0 where
+  by_byte : regex_may_start r (slice_get searched p) ≡ false → IsPassed r searched p
+  by_later : (place byte : ℕ) → slice_get searched (p + place) ≡ Some byte → NoneHolds r place byte → IsPassed r searched p
+
+-- each member that is in none of the groups is not asked at p
+abbrev pub HoldAllAt : ℕ → List Regex → List ℕ → ℕ → Groups → Type 0
+HoldAllAt width members searched p groups = (k : ℕ) (r : Regex) → slice_get members k ≡ Some r → has_group groups (k / width) ≡ false → IsPassed r searched p
 
 -- it has no group without a member that may start there
 abbrev pub HoldNoOthers : List Regex → Candidates → Type 0
@@ -61,13 +82,13 @@ pub record IsNextMember (width : ℕ) (groups : Groups) (from count k : ℕ) : T
   pub there : has_group groups (k / width) ≡ true
   pub none : NoMemberBetween width groups from k
 
--- no member with an index from the one on and below the other may start right before this byte, or before none
-abbrev pub NoStarterBetween : List Regex → Option ℕ → ℕ → ℕ → Type 0
-NoStarterBetween members next from to = (k : ℕ) (r : Regex) → from ≤ k → k < to → slice_get members k ≡ Some r → regex_may_start r next ≡ false
+-- no member with an index from the one on and below the other is asked at p
+abbrev pub NoStarterBetween : List Regex → List ℕ → ℕ → ℕ → ℕ → Type 0
+NoStarterBetween members searched p from to = (k : ℕ) (r : Regex) → from ≤ k → k < to → slice_get members k ≡ Some r → IsPassed r searched p
 
--- k is the first index, from the one on, of a member that may
-pub record IsNextStarter (members : List Regex) (next : Option ℕ) (from k : ℕ) : Type 0 where
+-- k is the first index, from the one on, of a member that is asked at p: it may start with the byte there
+pub record IsNextStarter (members : List Regex) (searched : List ℕ) (p from k : ℕ) : Type 0 where
   pub reached : from ≤ k
   pub inside : k < length members
-  pub starts : (r : Regex) → slice_get members k ≡ Some r → regex_may_start r next ≡ true
-  pub none : NoStarterBetween members next from k
+  pub starts : (r : Regex) → slice_get members k ≡ Some r → regex_may_start r (slice_get searched p) ≡ true
+  pub none : NoStarterBetween members searched p from k

@@ -11,5 +11,6 @@ pub mod RemainingLemmas
 pub mod IterationStepLemmas
 pub mod SpelledLemmas
 pub mod StartLemmas
+mod HoldLemmas
 pub mod TriedAtLemmas
 pub mod KeptTablesLemmas

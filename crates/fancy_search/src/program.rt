@@ -153,7 +153,7 @@ impl Program {
     ghost use Rattle.fancy_search.specs.SearchCounts.{RefusesEasy, IsOutOfSteps, AllowsAllSteps, tried_by, is_hopeless, IfFound, IsHardProgram, RefusesQuery, RefusesAttempt, AllowsAttempt, HasRoomFor, step_bound};
     ghost use Rattle.fancy_search.specs.Programs.{program_pattern, program_options, program_groups, program_names, program_length, program_is_easy, asked_of, query_in};
     ghost use Rattle.fancy_search.specs.Served.{IsPosition, StandsIn, KeepsCounts, CountsReturns, HeedsStackLimit, Serves, ServesEasily};
-    ghost use Rattle.fancy_search.specs.Starts.{may_start};
+    ghost use Rattle.fancy_search.specs.Starts.{may_start, NeverHolds};
     ghost use Rattle.fancy_search.specs.KeptTables.{KeepsTable, KeepsSteps, KeepsLines, IsKeptIn, IsKeptFor, KeepsNotes, LeavesNotes, table_kept, ahead_with, most_with, notes_to_go, TakesStepsToGo, SpendsSteps, KeepsOn, notes_ahead};
     ghost use Rattle.fancy_search.specs.Options.{search_options};
 
@@ -251,6 +251,14 @@ impl Program {
                 Some(byte) => starts.contains(byte),
             },
         }
+    }
+
+    /// Whether a match may start so many places, 1 or more, before this byte, by what each match opens with. For a hard pattern, and
+    /// where nothing is told of the place, the answer is `true`.
+    pub fn may_hold(&self, place: usize, byte: u8) -> bool
+        ensures { result ≡ false → NeverHolds self.now place byte }
+    {
+        !self.easy || self.code.prefilter.opening.may_hold(place, byte)
     }
 
     /// The first match that is asked for in the bytes of a haystack. Its groups stand in `cache` then.

@@ -1,15 +1,20 @@
-//! Which members of a pattern set may begin right before a byte.
+//! Which members of a pattern set may begin at a position, by the bytes there.
 //!
 //! A set does not try each of its patterns at each position. With the set a table is made that has, for each byte, the members
-//! that may begin there, and those that may begin at the end of the searched range. So a position where no member may begin
-//! costs one look-up, and at the others only those members are tried that may begin there.
+//! that may begin right before it, and those that may begin at the end of the searched range. Further tables have for each byte the
+//! members that may begin one, two and three places before it. Only the members are tried that are in the table of each place, so a
+//! position where none is costs four look-ups. Of easy members alone the further tables tell something: a hard one may be refused by
+//! an attempt that finds nothing, and is tried wherever its first byte stands.
 //!
-//! The table takes no memory beside its own, whatever the set's size: it has one bit for each of 128 groups of neighbours. Up to
+//! The tables take no memory beside their own, whatever the set's size: they have one bit for each of 128 groups of neighbours. Up to
 //! 128 members each have a group of their own.
 
-ghost use Rattle.std.specs.Prelude.{◌≡◌, ◌≤◌, ◌<◌, ◌*◌, ◌==◌, ◌||◌, ◌↔◌, ℕ, IfSome, IsTrue, MatchOption, false, length};
+ghost use Rattle.std.specs.Prelude.{◌≡◌, ◌≤◌, ◌<◌, ◌+◌, ◌*◌, ◌==◌, ◌&&◌, ◌||◌, ◌↔◌, ℕ, List, IfSome, IsTrue, MatchOption, false, length, slice_get, slice_index, take};
+ghost use Rattle.fancy_core.specs.declared.regex.Regex.{Regex};
 
 use fancy_core::regex::Regex;
+use fancy_core::starts::may_hold;
+use fancy_input::lines::byte_at;
 
 /// Groups of members, by their numbers.
 #[derive(Clone, Copy)]
@@ -18,7 +23,7 @@ pub(crate) struct Groups {
 }
 
 impl Groups {
-    ghost use Rattle.fancy_regex.specs.Candidates.{has_group, NoGroupFrom, IsNextGroup, HoldAll, HoldOnly};
+    ghost use Rattle.fancy_regex.specs.Candidates.{has_group, NoGroupFrom, IsNextGroup, HoldAll, HoldAhead, HoldAllAt, HoldOnly, AreHolders};
 
     fn none() -> Groups
         ensures { (g : ℕ) → has_group result g ≡ false }
@@ -52,7 +57,57 @@ impl Groups {
         groups
     }
 
-    fn is_empty(self) -> bool
+    /// The groups of the members that may start so many places before this byte.
+    fn of_holders(members: &[Regex], width: usize, place: usize, byte: u8) -> Groups
+        requires some { 0 < width }
+        requires sized { length members.now ≤ 128 * width }
+        ensures { HoldAhead width members.now place byte result }
+    {
+        let mut groups = Groups::none();
+        for (index, member) in members.iter().enumerate() {
+            if may_hold(member, place, byte) {
+                groups = groups.with(index / width);
+            }
+        }
+        groups
+    }
+
+    /// For each byte, the groups of the members that may start so many places before it.
+    fn holders(members: &[Regex], width: usize, place: usize) -> [Groups; 256]
+        requires some { 0 < width }
+        requires sized { length members.now ≤ 128 * width }
+        ensures { AreHolders width members.now place result }
+    {
+        let mut by_byte = [Groups::none(); 256];
+        for byte in 0..256u32 {
+            by_byte[byte as usize] = Groups::of_holders(members, width, place, byte as u8);
+        }
+        by_byte
+    }
+
+    /// The groups that are in both.
+    fn and(self, other: Groups) -> Groups
+        ensures { (g : ℕ) → has_group result g ≡ (has_group self g && has_group other g) }
+    {
+        Groups {
+            bits: self.bits & other.bits,
+        }
+    }
+
+    /// These groups without those that have no place in the table for this byte. With `None` all stay.
+    fn narrowed(self, by_byte: &[Groups; 256], next: Option<u8>) -> Groups
+        ensures { (width : ℕ) (members : List Regex) (searched : List ℕ) (p place : ℕ)
+            → next ≡ slice_get searched (p + place) → AreHolders width members place by_byte.now
+            → HoldAllAt width members searched p self
+            → HoldAllAt width members searched p result }
+    {
+        match next {
+            None => self,
+            Some(byte) => self.and(by_byte[byte as usize]),
+        }
+    }
+
+    pub(crate) fn is_empty(self) -> bool
         ensures { IsTrue result ↔ NoGroupFrom self 0 }
     {
         self.bits == 0
@@ -78,6 +133,10 @@ impl Groups {
 pub(crate) struct Candidates {
     by_byte: [Groups; 256],
     at_end: Groups,
+    // those that may begin one place before each byte, and so on
+    second: [Groups; 256],
+    third: [Groups; 256],
+    fourth: [Groups; 256],
     // how many members a group has
     width: usize,
     ghost some: { 0 < width },
@@ -85,7 +144,7 @@ pub(crate) struct Candidates {
 }
 
 impl Candidates {
-    ghost use Rattle.fancy_regex.specs.Candidates.{groups_before, AreCandidatesOf, HoldNoOthers, NoMemberBetween, IsNextMember};
+    ghost use Rattle.fancy_regex.specs.Candidates.{groups_before, AreCandidatesOf, HoldAllAt, HoldNoOthers, NoMemberBetween, IsNextMember};
 
     /// Of these members, at most 128 of which have a group of their own.
     pub(crate) fn new(members: &[Regex]) -> Candidates
@@ -102,12 +161,15 @@ impl Candidates {
         Candidates {
             by_byte,
             at_end,
+            second: Groups::holders(members, width, 1),
+            third: Groups::holders(members, width, 2),
+            fourth: Groups::holders(members, width, 3),
             width,
         }
     }
 
     /// The groups of the members that may begin right before this byte, or with `None` at the end of the searched range.
-    pub(crate) fn before(&self, next: Option<u8>) -> Groups
+    fn before(&self, next: Option<u8>) -> Groups
         ensures groups { result ≡ groups_before self.now next }
         ensures byte { IfSome next (λ b. b < 256) }
     {
@@ -115,6 +177,21 @@ impl Candidates {
             Some(byte) => self.by_byte[byte as usize],
             None => self.at_end,
         }
+    }
+
+    /// The groups of the members that may begin at a position, by the bytes from there to the end of the searched range.
+    pub(crate) fn at(&self, haystack: &[u8], range_end: usize, position: usize) -> Groups
+        requires inside { range_end ≤ length haystack.now }
+        requires ends { position ≤ range_end }
+        ensures bytes { (k : ℕ) → slice_index haystack.now k < 256 }
+        ensures held { (members : List Regex) → AreCandidatesOf members self.now
+            → HoldAllAt self.now.width members (take range_end haystack.now) position result }
+    {
+        let searched = &haystack[..range_end];
+        self.before(byte_at(searched, position))
+            .narrowed(&self.second, byte_at(searched, position + 1))
+            .narrowed(&self.third, byte_at(searched, position + 2))
+            .narrowed(&self.fourth, byte_at(searched, position + 3))
     }
 
     /// The first member in one of the groups with an index from the one on and below `count`.

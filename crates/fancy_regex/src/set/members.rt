@@ -1,6 +1,6 @@
 //! What the members of a pattern set answer.
 
-ghost use Rattle.std.specs.Prelude.{◌≡◌, ◌≤◌, ◌<◌, ◌+◌, [], None, Some, false, IfNone, IfSome, MatchOption, ℕ, length, slice_get, take};
+ghost use Rattle.std.specs.Prelude.{◌≡◌, ◌≤◌, ◌<◌, ◌+◌, [], None, Some, false, IfNone, IfSome, MatchOption, ℕ, length, slice_get, slice_index, take};
 ghost use Rattle.fancy_bytes.specs.Lacks.{AreKnown};
 ghost use Rattle.fancy_core.specs.declared.regex.Regex.{Regex};
 ghost use Rattle.fancy_input.specs.Inputs.{haystack_in, request_in};
@@ -64,11 +64,14 @@ impl RegexSet {
         }
         // a slice is shorter than 2^63 bytes
         let haystack = input.haystack();
-        let searched = &haystack.as_bytes()[..request.range_end];
+        let bytes = haystack.as_bytes();
         let last = request.last_position();
         for position in first..last + 1 {
-            let next = byte_at(searched, position);
-            if let Some(answer) = self.answer_before(next, 0, input, position, trials) {
+            let groups = self.candidates.at(bytes, request.range_end, position);
+            if groups.is_empty() {
+                continue;
+            }
+            if let Some(answer) = self.answer_before(bytes, 0, input, position, trials) {
                 return Some((position, answer));
             }
         }
@@ -106,24 +109,20 @@ impl RegexSet {
             (haystack_in input.now) position from a.index a.answer) }
     {
         let haystack = input.haystack();
-        let request = input.request();
-        let searched = &haystack.as_bytes()[..request.range_end];
-        let next = byte_at(searched, position);
-        self.answer_before(next, from, input, position, trials)
+        self.answer_before(haystack.as_bytes(), from, input, position, trials)
     }
 
-    /// The first answer of the members from an index on at a position, where this byte stands, or none at the end of the searched
-    /// range. `None` where none of them finds anything there.
+    /// The first answer of the members from an index on at a position of the haystack with these bytes. `None` where none of them
+    /// finds anything there.
     fn answer_before<S: Input>(
         &self,
-        next: Option<u8>,
+        bytes: &[u8],
         from: usize,
         input: &RegexInput<S>,
         position: usize,
         trials: &mut Trials,
     ) -> Option<MemberAnswer<'_, S>>
-        requires byte { next ≡ slice_get
-            (take (request_in input.now).range_end (S.bytes (haystack_in input.now))) position }
+        requires bytes { bytes.now ≡ S.bytes (haystack_in input.now) }
         requires searched { CanSearchAll S.text S.bytes self.now input.now }
         requires starts { effective_start (request_in input.now) ≤ position }
         requires ends { position ≤ (request_in input.now).range_end }
@@ -154,8 +153,9 @@ impl RegexSet {
         ensures first { IfSome result (λ a. IsFirstAnswer (asked_of_set self.now S.bytes input.now)
             (haystack_in input.now) position from a.index a.answer) }
     {
+        let range_end = input.request().range_end;
         let mut from = from;
-        'members: while let Some(index) = self.next_starter(next, from) {
+        'members: while let Some(index) = self.next_starter(bytes, range_end, position, from) {
             if let Some(answer) = self.answer_of(index, input, position, trials) {
                 return Some(MemberAnswer { index, answer });
             }
@@ -164,13 +164,25 @@ impl RegexSet {
         None
     }
 
-    /// The first member from an index on that may start right before this byte, or with `None` at the end of the searched range.
-    pub(crate) fn next_starter(&self, next: Option<u8>, from: usize) -> Option<usize>
-        ensures { MatchOption result
-            (NoStarterBetween (members_of self.now) next from (length (members_of self.now)))
-            (IsNextStarter (members_of self.now) next from) }
+    /// The first member from an index on that is to be asked at a position of the searched range: it may start with the byte there,
+    /// and the bytes after it do not tell that it finds nothing.
+    pub(crate) fn next_starter(
+        &self,
+        haystack: &[u8],
+        range_end: usize,
+        position: usize,
+        from: usize,
+    ) -> Option<usize>
+        requires inside { range_end ≤ length haystack.now }
+        requires ends { position ≤ range_end }
+        ensures bytes { (k : ℕ) → slice_index haystack.now k < 256 }
+        ensures next { MatchOption result
+            (NoStarterBetween (members_of self.now) (take range_end haystack.now) position from
+            (length (members_of self.now)))
+            (IsNextStarter (members_of self.now) (take range_end haystack.now) position from) }
     {
-        let groups = self.candidates.before(next);
+        let groups = self.candidates.at(haystack, range_end, position);
+        let next = byte_at(&haystack[..range_end], position);
         let count = self.members.len();
         let mut from = from;
         'candidates: while let Some(index) = self.candidates.next_member(groups, from, count) {

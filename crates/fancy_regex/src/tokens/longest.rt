@@ -18,7 +18,6 @@ use crate::tokens::token::Token;
 use fancy_code::found::Found;
 use fancy_core::attempt::captures_found;
 use fancy_input::input::{Input, Request};
-use fancy_input::lines::byte_at;
 use fancy_input::regex_input::RegexInput;
 use fancy_tree::error::{Error, Result, RuntimeError};
 
@@ -62,11 +61,11 @@ impl RegexSet {
         };
         let haystack = input.haystack();
         let bytes = haystack.as_bytes();
-        let next = byte_at(&bytes[..request.range_end], place);
+        let range_end = request.range_end;
         let mut longest = None;
         let mut end = place;
         let mut from = 0;
-        'members: while let Some(index) = self.next_starter(next, from) {
+        'members: while let Some(index) = self.next_starter(bytes, range_end, place, from) {
             let member = &self.members[index];
             let found = trials.find(index, member, bytes, here, place)?;
             if let Some(found) = found_past(found, place, end) {

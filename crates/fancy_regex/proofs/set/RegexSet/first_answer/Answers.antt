@@ -1,9 +1,11 @@
-use Rattle.std.proofs.Common.{ℕ, ◌+◌, ◌≤◌, rules, arith, refl, sym, ap, subst, ◌∙◌}
+use Rattle.std.proofs.Common.{ℕ, ◌+◌, ◌≤◌, length, take, rules, arith, refl, sym, ap, subst, ◌∙◌}
 use Rattle.fancy_input.specs.Requests.{effective_start}
 use Rattle.fancy_regex.specs.SetCounts.{most_steps_of_all, steps_left_in}
 use Rattle.fancy_regex.specs.Sets.{asked_of_set}
-use Rattle.fancy_regex.proofs.SetCountLemmas.{left_at_first}
-use Rattle.fancy_regex.proofs.SetLemmas.{passed_more, nowhere, if_none}
+use Rattle.fancy_regex.proofs.CandidateLemmas.{none_of_empty}
+use Rattle.fancy_regex.proofs.SetCandidateLemmas.{in_no_group, none_starts}
+use Rattle.fancy_regex.proofs.SetCountLemmas.{left_at_first, left_on}
+use Rattle.fancy_regex.proofs.SetLemmas.{passed_more, passed_one, nowhere, if_none}
 use Rattle.fancy_regex.proofs.TrialLemmas.{none_tried, noted_on}
 use Rattle.fancy_regex.proofs.set.RegexSet.first_answer.Goals as goal
 
@@ -18,6 +20,31 @@ loop-position-preserved g c = record {
   units = λ easy. c.answer_before.ensures.units easy ∙ c.loop-position.invariant.units easy;
   passed = passed_more (asked_of_set c.args.self.now g.S.Haystack.bytes c.args.input.now) c.loop-position.position c.answer_before.result c.in_default.not-Some c.answer_before.ensures.none c.loop-position.invariant.passed;
 }
+
+pub loop-position-preserved-then-is_empty : goal.loop-position-preserved-then-is_empty
+loop-position-preserved-then-is_empty g c =
+    let s = c.args.self.now in
+    let q = asked_of_set s g.S.Haystack.bytes c.args.input.now in
+    let p = c.loop-position.position in
+    let searched = take c.request-request.result.range_end c.as_bytes-bytes.result.now in
+    let passed = in_no_group s.members.items searched p s.candidates.width c.at-groups.result (c.at-groups.ensures.held s.members.items s.listed) 0 (length s.members.items)
+    (none_of_empty c.at-groups.result s.candidates.width 0 s.candidates.some (length s.members.items) (c.is_empty.ensures.0 c.if-is_empty.true)) in
+    let last = c.last_position-last.ensures.inside in
+    let test = c.loop-position-test.true in
+    let ends : p ≤ c.request-request.result.range_end = omega (arith, last, test) in
+    let none = none_starts q p searched (rw (c.request-request.ensures.value, c.as_bytes-bytes.ensures.bytes, c.haystack-haystack.ensures) refl)
+    (rw (c.as_bytes-bytes.ensures.bytes, c.haystack-haystack.ensures) at c.at-groups.ensures.bytes) c.args.input.now.inside
+    (rw c.request-request.ensures.value at ends) 0 (length s.members.items) passed in
+    record {
+      known = c.loop-position.invariant.known;
+      noted = noted_on q (λ k. 0 ≤ k) p (p + 1) c.loop-position.trials (omega arith) c.loop-position.invariant.noted;
+      taken = λ easy. omega (arith, c.loop-position.invariant.taken easy, left_on q 0 p c.loop-position.trials);
+      paired = c.loop-position.invariant.paired;
+      grows = c.loop-position.invariant.grows;
+      limit = c.loop-position.invariant.limit;
+      units = c.loop-position.invariant.units;
+      passed = passed_one q p none c.loop-position.invariant.passed;
+    }
 
 pub returns-clause-none : goal.returns-clause-none
 returns-clause-none g c =
