@@ -11,4 +11,5 @@ pub mod Cells
 pub mod Trail
 pub mod Front
 pub mod Sole
+pub mod Decided
 pub mod Remembered

@@ -6,6 +6,7 @@ ghost use Rattle.fancy_prefilter.specs.Seen.{MayStart};
 ghost use Rattle.fancy_automaton.specs.Cells.{HasRows, HoldsFor, IsIdle, ways_at};
 ghost use Rattle.fancy_automaton.specs.Search.{Going, IsFollowed, Passes};
 ghost use Rattle.fancy_automaton.specs.Sole.{IsAmid, IsSole, Reaches};
+ghost use Rattle.fancy_automaton.specs.Decided.{Goal, IsDecided, IsPlaced, Opens};
 
 use crate::cells::Cells;
 use crate::hop::{Stand, first_at, idle_row, stand_after};
@@ -218,11 +219,21 @@ fn past(attempt: &Attempt, cells: &Cells, at: Sole, idle: usize) -> Option<Sole>
     })
 }
 
-/// Goes on after a match was found, as long as some way waits.
-fn lengthen(attempt: &Attempt, cells: &Cells, from: Sole, idle: usize) -> Sole
-    requires sole { IsSole attempt.now cells.now from }
-    requires found { is_some from.end ≡ true }
-    ensures reaches { Reaches attempt.now cells.now from.stand.place result }
+/// Goes on where no way begins any more, as long as some way waits: after a match was found, and where a search is anchored.
+pub(crate) fn lengthen(attempt: &Attempt, cells: &Cells, from: Sole, idle: usize) -> Sole
+    requires followed { IsFollowed attempt.now }
+    requires kept { HoldsFor cells.now attempt.now.code.now }
+    requires row { from.stand.next < length cells.now.rows.lists.items }
+    requires placed { IsPlaced attempt.now cells.now from.stand }
+    ensures row { result.stand.next < length cells.now.rows.lists.items }
+    ensures placed { IsPlaced attempt.now cells.now result.stand }
+    ensures forth { from.stand.place ≤ result.stand.place }
+    ensures start { result.start ≡ from.start }
+    ensures found { is_some from.end ≡ true → is_some result.end ≡ true }
+    ensures decided { (goal : Goal) → IsDecided attempt.now cells.now goal from
+        → IsDecided attempt.now cells.now goal result }
+    ensures opens { Opens attempt.now cells.now from.stand
+        → Opens attempt.now cells.now result.stand }
 {
     let table = cells.table.view();
     let haystack = attempt.haystack;
@@ -241,9 +252,6 @@ fn lengthen(attempt: &Attempt, cells: &Cells, from: Sole, idle: usize) -> Sole
                 step
             }
         };
-        if let Origin::Mixed = step.origin {
-            break 'places;
-        }
         end = later;
         at = stand_after(at, column, step);
     }

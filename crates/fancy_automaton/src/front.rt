@@ -421,7 +421,7 @@ impl Front {
 
 /// The place after what is read; where nothing is, the next byte offset.
 #[inline(always)]
-fn place_after(place: usize, reading: Option<Reading>, limit: usize) -> usize
+pub(crate) fn place_after(place: usize, reading: Option<Reading>, limit: usize) -> usize
     requires more { place < usize.MAX }
     requires fits { IfSome reading (λ r. place + r.width ≤ limit) }
     requires within { place ≤ limit }

@@ -14,6 +14,7 @@
 //! from, so it is followed back to the step at which it began.
 #![tactic(auto)]
 
+mod anchored;
 pub mod cells;
 pub mod closure;
 pub mod follow;

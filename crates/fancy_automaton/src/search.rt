@@ -16,6 +16,7 @@ ghost use Rattle.fancy_automaton.specs.Search.{BegunIn, KeepsPlaces, at_position
 ghost use Rattle.fancy_automaton.specs.Counts.{AddsSteps};
 ghost use Rattle.fancy_automaton.specs.Sole.{IsSole};
 
+use crate::anchored::end_at;
 use crate::cells::{Cells, MORE_ROOM, ROOM, origin};
 use crate::follow::{Sole, follow, next_place};
 use crate::front::Front;
@@ -96,8 +97,36 @@ fn find_span(
     Ok(found)
 }
 
+/// Where the match begins and ends that is asked for: at the first position alone, or at the leftmost one that has a match.
+fn span_in(
+    attempt: &Attempt,
+    anchored: bool,
+    cells: &mut Cells,
+    work: &mut Work,
+) -> Result<Option<Span>, AllocError>
+    requires ordered { attempt.now.base ≤ attempt.now.last }
+    requires followed { IsFollowed attempt.now }
+    requires kept { HoldsFor cells.old attempt.now.code.now }
+    ensures answer { IfOk result (λ found. (deep : ℕ) → BegunIn attempt.now deep
+        → option_map ends_in found ≡ leftmost_in attempt.now deep
+        (if anchored then 1 else (attempt.now.last + 1 - attempt.now.base)) attempt.now.base) }
+    ensures kept { HoldsFor cells.new attempt.now.code.now }
+    ensures counts { AddsSteps
+        (code_len attempt.now.code.now * (attempt.now.last + 1 - attempt.now.base))
+        work.old work.new }
+    ensures idle { NoneMayStart attempt.now.code.now.prefilter.starts attempt.now.haystack.now
+        attempt.now.last attempt.now.base (attempt.now.last + 1)
+        → steps_of work.new ≡ steps_of work.old }
+{
+    if !anchored {
+        return find_span(attempt, cells, work);
+    }
+    let end = end_at(attempt, cells, work)?;
+    Ok(span_from(attempt.base, end))
+}
+
 /// Searches a haystack for the pattern of plain code: the match that the runner's search finds, in byte offsets. No group takes
-/// part in it, since plain code begins none. A search is not anchored, and reads from boundary to boundary (`KeepsPlaces`).
+/// part in it, since plain code begins none. It reads from boundary to boundary (`KeepsPlaces`).
 ///
 /// Steps are remembered in `cells`, which begins empty and serves any number of searches for one code. It is cleared where
 /// it is full, as often as that is; no answer changes by that. The limit of steps is not heeded: the caller sees that it allows
@@ -118,7 +147,6 @@ pub fn find(
 ) -> Result<Option<Found>, SearchRefusal>
     requires inside { request.range_end ≤ length haystack.now }
     requires plain { ArePlain (instrs_of code.now) }
-    requires free { request.anchored ≡ false }
     requires reads { KeepsPlaces haystack.now code.now.meaning options.on_boundaries }
     requires kept { IsBounded cells.old }
     requires all { IsFor cells.old code.now }
@@ -150,7 +178,7 @@ pub fn find(
         step_limit: None,
     };
     cells.room = ROOM.saturating_add(haystack.len().min(MORE_ROOM));
-    let found = find_span(&attempt, cells, work)?;
+    let found = span_in(&attempt, request.anchored, cells, work)?;
     Ok(found_by(found))
 }
 

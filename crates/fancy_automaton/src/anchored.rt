@@ -1,0 +1,177 @@
+//! The attempt at one place: all ways begin there, and none at a later one.
+
+ghost use Rattle.std.specs.Prelude.{◌≡◌, ◌+◌, ◌-◌, ◌*◌, ◌<◌, ◌≤◌, ◌≢◌, [], ℕ, false, true, IfOk, length, option_map};
+ghost use Rattle.fancy_code.specs.Attempt.{may_end_in};
+ghost use Rattle.fancy_code.specs.CodeLength.{code_len};
+ghost use Rattle.fancy_input.specs.Work.{steps_of};
+ghost use Rattle.fancy_prefilter.specs.Seen.{MayStart, NoneMayStart};
+ghost use Rattle.fancy_automaton.specs.Cells.{HasPlace, HasRow, HoldsFor, IsFor, ways_at};
+ghost use Rattle.fancy_automaton.specs.Counts.{AddsSteps};
+ghost use Rattle.fancy_automaton.specs.Decided.{Goal, IsDecided, Rests, attempt_goal};
+ghost use Rattle.fancy_automaton.specs.Search.{BegunIn, Passes, IsFollowed};
+ghost use Rattle.fancy_automaton.specs.Ways.{tagged};
+
+use crate::cells::{Cells, origin, restart, seen_at, step_at};
+use crate::follow::{Sole, lengthen};
+use crate::front::place_after;
+use crate::hop::{Stand, first_at, idle_row};
+use fancy_code::attempt::Attempt;
+use fancy_code::options::is_match_boundary;
+use fancy_input::work::Work;
+use std::alloc::AllocError;
+
+/// Whether a match may begin at a place, by the byte that stands there.
+fn may_begin(attempt: &Attempt, place: usize) -> bool
+    requires inside { attempt.now.last ≤ length attempt.now.haystack.now }
+    ensures good { result ≡ true → may_end_in attempt.now place ≡ true }
+    ensures stands { result ≡ true → MayStart attempt.now.code.now.prefilter.starts
+        attempt.now.haystack.now attempt.now.last place }
+    ensures passed { result ≡ false → Passes attempt.now place }
+{
+    if !is_match_boundary(attempt.on_boundaries, attempt.haystack, place) {
+        return false;
+    }
+    match &attempt.code.prefilter.starts {
+        None => true,
+        Some(starts) => place < attempt.last && starts.contains(attempt.haystack[place]),
+    }
+}
+
+/// Forgets all but the row of the ways that wait, where one more step may be one too many.
+fn make_place(attempt: &Attempt, cells: &mut Cells, from: Stand) -> Result<Stand, AllocError>
+    requires row { from.next < length cells.old.rows.lists.items }
+    requires kept { HoldsFor cells.old attempt.now.code.now }
+    ensures kept { HoldsFor cells.new attempt.now.code.now }
+    ensures place { IfOk result (λ _. HasPlace cells.new) }
+    ensures stays { IfOk result (λ at. at.place ≡ from.place) }
+    ensures row { IfOk result (λ at. HasRow cells.new.rows.lists.items at.next
+        (ways_at cells.old.rows.lists.items from.next)) }
+{
+    if !cells.is_full() {
+        return Ok(from);
+    }
+    let target = restart(cells, attempt.code.start, from.next)?;
+    Ok(Stand {
+        place: from.place,
+        first: from.first,
+        next: target.next,
+        begun: target.begun,
+    })
+}
+
+/// Takes the step at a place where some way waits.
+fn step(
+    attempt: &Attempt,
+    cells: &mut Cells,
+    from: Sole,
+    work: &mut Work,
+) -> Result<Sole, AllocError>
+    requires followed { IsFollowed attempt.now }
+    requires row { from.stand.next < length cells.old.rows.lists.items }
+    requires place { HasPlace cells.old }
+    requires all { IsFor cells.old attempt.now.code.now }
+    requires good { may_end_in attempt.now from.stand.place ≡ true }
+    requires within { from.stand.place ≤ attempt.now.last }
+    ensures kept { HoldsFor cells.new attempt.now.code.now }
+    ensures counts { AddsSteps (code_len attempt.now.code.now) work.old work.new }
+    ensures forth { IfOk result (λ to. from.stand.place < to.stand.place) }
+    ensures ends { IfOk result (λ to. to.stand.place ≤ attempt.now.last + 1) }
+    ensures rests { IfOk result (Rests attempt.now cells.new) }
+    ensures decided { IfOk result (λ to. (goal : Goal)
+        → IsDecided attempt.now cells.old goal from → IsDecided attempt.now cells.new goal to) }
+{
+    let place = from.stand.place;
+    let sight = seen_at(attempt, cells, place);
+    let k = step_at(attempt.code, cells, from.stand.next, sight, work)?;
+    let cell = &cells.cells[k];
+    let after = place_after(place, sight.reading, attempt.last);
+    let end = match cell.matched {
+        None => from.end,
+        Some(_) => Some(place),
+    };
+    Ok(Sole {
+        stand: Stand {
+            place: after,
+            first: first_at(attempt, cells, after.min(attempt.last)),
+            next: cell.next,
+            begun: cell.begun,
+        },
+        start: from.start,
+        end,
+    })
+}
+
+/// Takes the step at a place where some way waits, and then those that the table tells.
+fn advance(
+    attempt: &Attempt,
+    cells: &mut Cells,
+    from: Sole,
+    work: &mut Work,
+) -> Result<Sole, AllocError>
+    requires followed { IsFollowed attempt.now }
+    requires kept { HoldsFor cells.old attempt.now.code.now }
+    requires rests { Rests attempt.now cells.old from }
+    requires some { ways_at cells.old.rows.lists.items from.stand.next ≢ [] }
+    ensures kept { HoldsFor cells.new attempt.now.code.now }
+    ensures counts { AddsSteps (code_len attempt.now.code.now) work.old work.new }
+    ensures forth { IfOk result (λ to. from.stand.place < to.stand.place) }
+    ensures ends { IfOk result (λ to. to.stand.place ≤ attempt.now.last + 1) }
+    ensures rests { IfOk result (Rests attempt.now cells.new) }
+    ensures decided { IfOk result (λ to. (goal : Goal)
+        → IsDecided attempt.now cells.old goal from → IsDecided attempt.now cells.new goal to) }
+{
+    let stand = make_place(attempt, cells, from.stand)?;
+    let at = Sole {
+        stand,
+        start: from.start,
+        end: from.end,
+    };
+    let next = step(attempt, cells, at, work)?;
+    if cells.rows.lists[next.stand.next].len() == 0 {
+        return Ok(next);
+    }
+    Ok(lengthen(attempt, cells, next, idle_row(cells)))
+}
+
+/// Where the match ends that begins at the first place, if there is one. No way begins at a later place.
+pub(crate) fn end_at(
+    attempt: &Attempt,
+    cells: &mut Cells,
+    work: &mut Work,
+) -> Result<Option<usize>, AllocError>
+    requires ordered { attempt.now.base ≤ attempt.now.last }
+    requires followed { IsFollowed attempt.now }
+    requires kept { HoldsFor cells.old attempt.now.code.now }
+    ensures answer { IfOk result (λ end. (deep : ℕ) → BegunIn attempt.now deep
+        → tagged attempt.now.base end ≡ attempt_goal attempt.now deep) }
+    ensures kept { HoldsFor cells.new attempt.now.code.now }
+    ensures counts { AddsSteps
+        (code_len attempt.now.code.now * (attempt.now.last + 1 - attempt.now.base))
+        work.old work.new }
+    ensures idle { NoneMayStart attempt.now.code.now.prefilter.starts attempt.now.haystack.now
+        attempt.now.last attempt.now.base (attempt.now.last + 1)
+        → steps_of work.new ≡ steps_of work.old }
+{
+    let place = attempt.base;
+    if !may_begin(attempt, place) {
+        cells.reached = place;
+        return Ok(None);
+    }
+    let origin = origin(attempt.code, cells)?;
+    let from = Sole {
+        stand: Stand {
+            place,
+            first: first_at(attempt, cells, place),
+            next: origin.begun,
+            begun: origin.begun,
+        },
+        start: place,
+        end: None,
+    };
+    let mut at = lengthen(attempt, cells, from, origin.next);
+    'places: while cells.rows.lists[at.stand.next].len() > 0 {
+        at = advance(attempt, cells, at, work)?;
+    }
+    cells.reached = at.stand.place;
+    Ok(at.end)
+}
