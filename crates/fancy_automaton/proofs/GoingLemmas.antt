@@ -46,7 +46,7 @@ module _ (a : Attempt) where
       (subst (λ (o : Option Span). Goes ways starts o place resume') f (subst (λ (p : ℕ). Goes ways starts found place p) e g)))
 
   -- nothing is found where no match may begin
-  passed_none : (deep k : ℕ) → BegunIn a deep → k ≤ a.last → Passes a k → start_end (may_end_in a) (context_in a) a.last (instrs_in a) deep a.code.now.start k ≡ None
+  pub passed_none : (deep k : ℕ) → BegunIn a deep → k ≤ a.last → Passes a k → start_end (may_end_in a) (context_in a) a.last (instrs_in a) deep a.code.now.start k ≡ None
   passed_none deep k begun within (inl bad) =
       ap (λ (b : Bool). if b then (end_at (may_end_in a) (context_in a) a.last (instrs_in a) deep k a.code.now.start) else None) bad
   passed_none deep k begun within (inr never) = by (may_end_in a k) refl where
@@ -94,7 +94,7 @@ module _ (a : Attempt) where
       })
 
   -- where what is read leads
-  abbrev Reaches : ℕ → Option Unit_at → Type 0
+  abbrev pub Reaches : ℕ → Option Unit_at → Type 0
   Reaches place u =
       (place + 1 ≤ place_after place u) × ((k : ℕ) → place + 1 ≤ k → k < place_after place u → may_end_in a k ≡ false)
       × (((may_end_in a (place_after place u) ≡ true) × (place_after place u ≤ a.last)) ⊎ (u ≡ None))
@@ -114,6 +114,12 @@ module _ (a : Attempt) where
   reaches_cut steady place within fine None e = reaches_none place
   reaches_cut steady place within fine (Some v) e = reaches_if steady place within fine v e (nat_le (place + v.width) a.last) refl
 
+  -- where what is seen at a place leads
+  pub seen_reaches : Steady a → (place : ℕ) → place ≤ a.last → may_end_in a place ≡ true → (s : Seen) → IsSeen (context_in a) a.last place s → Reaches place s.unit
+  seen_reaches steady place within fine s seen =
+      let is : s.unit ≡ cut a.last place (unit_in a.code.now.meaning a.haystack.now place) = seen.unit ∙ ap (cut a.last place) (unit_is a place) in
+      subst (Reaches place) (sym is) (reaches_cut steady place within fine (unit_in a.code.now.meaning a.haystack.now place) refl)
+
   -- one place of the search
   pub going_step : Steady a → ArePlain (instrs_in a)
       → (ways starts : List ℕ) (found after : Option Span) (place : ℕ) (s : Seen) (next : List Way) (matched : Option ℕ)
@@ -123,8 +129,7 @@ module _ (a : Attempt) where
       → Goes ways starts found place place
       → Goes (map at_of next) (map (start_in (begun_if found starts place)) next) after (place + 1) (place_after place s.unit)
   going_step steady plain ways starts found after place s next matched within fine seen step halts told g =
-      let is : s.unit ≡ cut a.last place (unit_in a.code.now.meaning a.haystack.now place) = seen.unit ∙ ap (cut a.last place) (unit_is a place) in
-      let r = subst (Reaches place) (sym is) (reaches_cut steady place within fine (unit_in a.code.now.meaning a.haystack.now place) refl) in
+      let r = seen_reaches steady place within fine s seen in
       record {
         under = λ deep begun.
             (let now = under_begun_if (may_end_in a) (context_in a) a.last (instrs_in a) deep a.code.now.start _ found ways starts place (a.last + 1 - place) (a.last + 1 - (place + 1)) (omega arith) fine within begun.known (g.under deep begun) in

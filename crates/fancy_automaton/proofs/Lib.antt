@@ -16,5 +16,7 @@ pub mod TrailLemmas
 pub mod FrontLemmas
 pub mod HopLemmas
 pub mod SoleLemmas
+pub mod DecidedLemmas
+pub mod WalkLemmas
 pub mod TransitionLemmas
 pub mod RememberedLemmas

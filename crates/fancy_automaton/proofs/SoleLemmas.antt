@@ -1,5 +1,5 @@
 -- Steps of a search whose ways that wait all began at one place.
-use Rattle.std.proofs.Common.{◌≡◌, ℕ, zero, suc, ◌+◌, ◌-◌, ◌<◌, ◌⊎◌, inl, inr, ◌++◌, ◌∷◌, [], Bool, true, List, Option, Some, None, refl, sym, ap, ap₂, ◌∙◌, subst, arith, length, map, replicate, take, length-append, option_map, get_or}
+use Rattle.std.proofs.Common.{◌≡◌, ℕ, zero, suc, ◌+◌, ◌-◌, ◌<◌, inl, inr, ◌++◌, ◌∷◌, [], Bool, true, List, Option, Some, None, refl, sym, ap, ap₂, ◌∙◌, subst, arith, length, map, replicate, take, length-append, option_map, get_or}
 use Rattle.std.specs.Prelude.{slice_get, slice_index, nat_eq, nat_lt, is_some, IfSome}
 use Rattle.std.specs.List.{list_all}
 use Rattle.std.specs.Option.{option_or}
@@ -23,7 +23,7 @@ use Rattle.fancy_automaton.specs.declared.cells.Cell.{Cell}
 use Rattle.fancy_automaton.specs.declared.cells.Cells.{Cells}
 use Rattle.fancy_automaton.specs.declared.hop.Stand.{Stand}
 use Rattle.fancy_automaton.specs.declared.origin.Origin.{Origin}
-use Rattle.fancy_automaton.specs.declared.origin.Origin.TheVariants.{Earlier, Last, Mixed}
+use Rattle.fancy_automaton.specs.declared.origin.Origin.TheVariants.{Earlier, Last}
 use Rattle.fancy_automaton.specs.declared.transitions.Transition.{Transition}
 use Rattle.fancy_automaton.specs.declared.way.Way.{Way}
 use Rattle.fancy_alphabet.specs.declared.classes.Classes.{Classes}
@@ -154,23 +154,6 @@ module _ (a : Attempt) (cells : Cells) (at : Stand) (ways starts : List ℕ) (fo
       let come : ComeFrom Last many all_come d.matched = subst (λ (o : Origin). ComeFrom o many all_come d.matched) e (comes a cells at ways starts found row byte c t d before here column is rowed told there) in
       come.0
 
-module _ (a : Attempt) (cells : Cells) (at : Stand) (ways starts : List ℕ) (m : Span)
-    (row byte : ℕ) (c : Column) (t : Transition) (d : Cell)
-    (before : at.place < a.last) (here : slice_get a.haystack.now at.place ≡ Some byte) (column : slice_get cells.table.classes.columns.items byte ≡ Some c)
-    (is : IsAt a cells at ways starts (Some m)) (rowed : row ≡ at.next)
-    (told : IsTransition cells.cells.items row (sight_for cells.table.classes (seen_as cells.table.classes.tests is.begins.0) byte) t)
-    (there : slice_get cells.cells.items t.cell ≡ Some d) (f : ℕ) (some : d.matched ≡ Some f) where
-  pub within_row : (t.origin ≡ Earlier) ⊎ (t.origin ≡ Last) → f < length ways
-  within_row (inl e) =
-      let low : f < length ways - 1 = subst (λ (o : Option ℕ). IfSome o (λ f. f < length ways - 1)) some
-      (earlier_found a cells at ways starts (Some m) row byte c t d before here column is rowed told there e) in
-      omega (arith, low)
-  within_row (inr e) =
-      let same : f ≡ length ways - 1 = subst (λ (o : Option ℕ). IfSome o (λ f. f ≡ length ways - 1)) some
-      (last_found a cells at ways starts (Some m) row byte c t d before here column is rowed told there e) in
-      let pos = some_way a cells at ways starts (Some m) row byte c t d before here column is rowed told there e in
-      omega (arith, same, pos)
-
 -- ways that come from some with one beginning have it too
 began_at_one : (starts : List ℕ) (s : ℕ) (test : ℕ → Bool) (next : List Way) → ((f : ℕ) → test f ≡ true → slice_index starts f ≡ s) → list_all test (map from_of next) ≡ true
     → map (start_in starts) next ≡ replicate (length (map at_of next)) s
@@ -231,23 +214,7 @@ module _ (a : Attempt) (cells : Cells) (at : Stand) (ways : List ℕ) (s : ℕ) 
             (λ f same. last_began ways starts a.code.now.start at.place f even (equal f _ same)) come.1) st.stands,
       )
 
-  pub stays : (m : Span) → Stepped a cells at ways (replicate (length ways) s) (Some m) after c t matched → (t.origin ≡ Earlier) ⊎ (t.origin ≡ Last) → Sole_at s
-  stays m st (inl e) =
-      let come : ComeFrom Earlier (length ways) (map from_of st.next) matched = subst (λ (o : Origin). ComeFrom o (length ways) (map from_of st.next) matched) e st.come in (
-        map at_of st.next,
-        subst (λ (ss : List ℕ). IsAt a cells (stood at c t) (map at_of st.next) ss after)
-            (began_at_one (replicate (length ways) s) s (λ f. nat_lt f (length ways - 1)) st.next
-            (λ f lt. index_one (length ways) s f (let low = below f _ lt in omega (arith, low))) come.0) st.stands,
-      )
-  stays m st (inr e) =
-      let come : ComeFrom Last (length ways) (map from_of st.next) matched = subst (λ (o : Origin). ComeFrom o (length ways) (map from_of st.next) matched) e st.come in (
-        map at_of st.next,
-        subst (λ (ss : List ℕ). IsAt a cells (stood at c t) (map at_of st.next) ss after)
-            (began_at_one (replicate (length ways) s) s (λ f. nat_eq f (length ways - 1)) st.next
-            (λ f same. index_one (length ways) s f (let is = equal f _ same in omega (arith, is, come.0))) come.1) st.stands,
-      )
-
-cell_there : (cells : List Cell) (k : ℕ) → k < length cells → (d : Cell) × (slice_get cells k ≡ Some d)
+pub cell_there : (cells : List Cell) (k : ℕ) → k < length cells → (d : Cell) × (slice_get cells k ≡ Some d)
 cell_there cells k lt =
     elim (slice_get_cases cells k).1 [
       | inl there ↦ (there.0, there.2)
@@ -324,24 +291,6 @@ module _ (a : Attempt) (cells : Cells) (at : Stand) (byte : ℕ) (c : Column) (t
       (matching a cells at ways starts None at.begun byte c t there.0 r.before r.here r.column is refl told.0 there.1 some.0 at.place some.1
       (last_began ways starts a.code.now.start at.place some.0 is.going.even come)) e
 
-  -- after a match was found
-  pub later_quiet : (ways : List ℕ) (s : ℕ) (m : Span) (is : IsAt a cells at ways (replicate (length ways) s) (Some m)) → Reads a cells at at.next byte c → Tells at.next is.begins.0 IsQuiet
-      → (t.origin ≡ Earlier) ⊎ (t.origin ≡ Last) → (next : List ℕ) × IsAt a cells (stood at c t) next (replicate (length next) s) (Some m)
-  later_quiet ways s m is r told e =
-      let there = cell_there cells.cells.items t.cell told.0.stands in
-      stays a cells at ways s (Some m) c t there.0.matched m
-      (quiet a cells at ways (replicate (length ways) s) (Some m) at.next byte c t there.0 r.before r.here r.column is refl told.0 there.1 (told.1 there.0 there.1)) e
-
-  pub later_found : (ways : List ℕ) (s : ℕ) (m : Span) (is : IsAt a cells at ways (replicate (length ways) s) (Some m)) → Reads a cells at at.next byte c → Tells at.next is.begins.0 IsMatching
-      → (t.origin ≡ Earlier) ⊎ (t.origin ≡ Last) → (next : List ℕ) × IsAt a cells (stood at c t) next (replicate (length next) s) (Some (record { start = s; end = at.place }))
-  later_found ways s m is r told e =
-      let there = cell_there cells.cells.items t.cell told.0.stands in
-      let some = some_of there.0.matched (told.1 there.0 there.1) in
-      let starts = replicate (length ways) s in
-      let low : some.0 < length ways = within_row a cells at ways starts m at.next byte c t there.0 r.before r.here r.column is refl told.0 there.1 some.0 some.1 e in
-      stays a cells at ways s (Some (record { start = s; end = at.place })) c t there.0.matched m
-      (matching a cells at ways starts (Some m) at.next byte c t there.0 r.before r.here r.column is refl told.0 there.1 some.0 s some.1 (index_one (length ways) s some.0 low)) e
-
 -- where no way waits, they began anywhere
 pub idle_sole : (a : Attempt) (cells : Cells) (at : Stand) (idle start : ℕ) → IsIdle cells.rows.lists.items idle → at.next ≡ idle → IsAmid a cells at
     → (next : List ℕ) × IsAt a cells at next (replicate (length next) start) None
@@ -386,12 +335,6 @@ sole_kept a cells later s keeps rows classes is =
         within = at.within;
       },
     )
-
--- two cases are left
-pub is_one : (o : Origin) → (o ≡ Mixed → ⊥) → (o ≡ Earlier) ⊎ (o ≡ Last)
-is_one Earlier not = inl refl
-is_one Last not = inr refl
-is_one Mixed not = absurd (not refl)
 
 -- a search all of whose ways began at one place
 pub sole_front : (a : Attempt) (cells : Cells) (f : Front) (at : Stand) (p s : ℕ) (end : Option ℕ) → Stands a cells f p → starts_of cells f ≡ replicate (length (starts_of cells f)) s → found_of cells f ≡ match_from s end

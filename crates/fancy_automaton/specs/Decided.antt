@@ -1,5 +1,5 @@
 -- A walk in which no way begins any more: the match that is looked for begins at one place, if there is one.
-use Rattle.std.specs.Prelude.{◌≡◌, ◌≤◌, ◌<◌, ◌⊎◌, ◌≢◌, ℕ, true, List, [], ◌∷◌, ◌++◌, Option, None, Some, length, replicate}
+use Rattle.std.specs.Prelude.{◌≡◌, ◌≤◌, ◌<◌, ◌⊎◌, ℕ, true, List, [], ◌∷◌, ◌++◌, Option, None, Some, length, replicate}
 use Rattle.fancy_code.specs.declared.attempt.Attempt.{Attempt}
 use Rattle.fancy_code.specs.Attempt.{context_in, instrs_in, may_end_in}
 use Rattle.fancy_alphabet.specs.Classes.{IsFirst}
@@ -23,6 +23,11 @@ pub record Decided (a : Attempt) (goal : Goal) (start : ℕ) (ways : List ℕ) (
   pub under : (deep : ℕ) → BegunIn a deep
       → Under (may_end_in a) (context_in a) a.last (instrs_in a) deep a.code.now.start (goal deep) ways (replicate (length ways) start) place (tagged start end)
   pub tells : (deep : ℕ) → BegunIn a deep → (o : Option ℕ) × (goal deep ≡ tagged start o)
+
+-- where the match ends after a step at a place, if one was found there or before
+abbrev pub later_end : Option ℕ → Option ℕ → ℕ → Option ℕ
+later_end None end place = end
+later_end (Some f) end place = Some place
 
 -- the ways of the row that wait
 abbrev pub IsDecided : Attempt → Cells → Goal → Sole → Type 0

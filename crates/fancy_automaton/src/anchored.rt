@@ -7,16 +7,17 @@ ghost use Rattle.fancy_input.specs.Work.{steps_of};
 ghost use Rattle.fancy_prefilter.specs.Seen.{MayStart, NoneMayStart};
 ghost use Rattle.fancy_automaton.specs.Cells.{HasPlace, HasRow, HoldsFor, IsFor, ways_at};
 ghost use Rattle.fancy_automaton.specs.Counts.{AddsSteps};
-ghost use Rattle.fancy_automaton.specs.Decided.{Goal, IsDecided, Rests, attempt_goal};
-ghost use Rattle.fancy_automaton.specs.Search.{BegunIn, Passes, IsFollowed};
-ghost use Rattle.fancy_automaton.specs.Ways.{tagged};
+ghost use Rattle.fancy_automaton.specs.Decided.{Goal, IsDecided, Rests, attempt_goal, later_end};
+ghost use Rattle.fancy_automaton.specs.Search.{BegunIn, Passes, IsFollowed, ends_in};
 
 use crate::cells::{Cells, origin, restart, seen_at, step_at};
 use crate::follow::{Sole, lengthen};
 use crate::front::place_after;
 use crate::hop::{Stand, first_at, idle_row};
+use crate::trail::span_from;
 use fancy_code::attempt::Attempt;
 use fancy_code::options::is_match_boundary;
+use fancy_input::span::Span;
 use fancy_input::work::Work;
 use std::alloc::AllocError;
 
@@ -59,6 +60,25 @@ fn make_place(attempt: &Attempt, cells: &mut Cells, from: Stand) -> Result<Stand
     })
 }
 
+/// Whether no way waits.
+fn is_idle(cells: &Cells, at: Stand) -> bool
+    requires { at.next < length cells.now.rows.lists.items }
+    ensures none { result ≡ true → ways_at cells.now.rows.lists.items at.next ≡ [] }
+    ensures some { result ≡ false → ways_at cells.now.rows.lists.items at.next ≢ [] }
+{
+    cells.rows.lists[at.next].len() == 0
+}
+
+/// Where the match ends after a step at a place: there, if one is found, since what goes on is preferred to what was found.
+fn later_end(matched: Option<usize>, end: Option<usize>, place: usize) -> Option<usize>
+    ensures { result ≡ later_end matched end place }
+{
+    match matched {
+        None => end,
+        Some(_) => Some(place),
+    }
+}
+
 /// Takes the step at a place where some way waits.
 fn step(
     attempt: &Attempt,
@@ -85,10 +105,7 @@ fn step(
     let k = step_at(attempt.code, cells, from.stand.next, sight, work)?;
     let cell = &cells.cells[k];
     let after = place_after(place, sight.reading, attempt.last);
-    let end = match cell.matched {
-        None => from.end,
-        Some(_) => Some(place),
-    };
+    let end = later_end(cell.matched, from.end, place);
     Ok(Sole {
         stand: Stand {
             place: after,
@@ -127,23 +144,23 @@ fn advance(
         end: from.end,
     };
     let next = step(attempt, cells, at, work)?;
-    if cells.rows.lists[next.stand.next].len() == 0 {
+    if is_idle(cells, next.stand) {
         return Ok(next);
     }
     Ok(lengthen(attempt, cells, next, idle_row(cells)))
 }
 
-/// Where the match ends that begins at the first place, if there is one. No way begins at a later place.
-pub(crate) fn end_at(
+/// Where the match begins and ends that begins at the first place, if there is one. No way begins at a later place.
+pub(crate) fn span_at(
     attempt: &Attempt,
     cells: &mut Cells,
     work: &mut Work,
-) -> Result<Option<usize>, AllocError>
+) -> Result<Option<Span>, AllocError>
     requires ordered { attempt.now.base ≤ attempt.now.last }
     requires followed { IsFollowed attempt.now }
     requires kept { HoldsFor cells.old attempt.now.code.now }
-    ensures answer { IfOk result (λ end. (deep : ℕ) → BegunIn attempt.now deep
-        → tagged attempt.now.base end ≡ attempt_goal attempt.now deep) }
+    ensures answer { IfOk result (λ found. (deep : ℕ) → BegunIn attempt.now deep
+        → option_map ends_in found ≡ attempt_goal attempt.now deep) }
     ensures kept { HoldsFor cells.new attempt.now.code.now }
     ensures counts { AddsSteps
         (code_len attempt.now.code.now * (attempt.now.last + 1 - attempt.now.base))
@@ -158,6 +175,7 @@ pub(crate) fn end_at(
         return Ok(None);
     }
     let origin = origin(attempt.code, cells)?;
+    // No way begins later, so the row with one more way is not asked.
     let from = Sole {
         stand: Stand {
             place,
@@ -169,9 +187,11 @@ pub(crate) fn end_at(
         end: None,
     };
     let mut at = lengthen(attempt, cells, from, origin.next);
-    'places: while cells.rows.lists[at.stand.next].len() > 0 {
+    'places: loop {
+        if is_idle(cells, at.stand) {
+            cells.reached = at.stand.place;
+            return Ok(span_from(at.start, at.end));
+        }
         at = advance(attempt, cells, at, work)?;
     }
-    cells.reached = at.stand.place;
-    Ok(at.end)
 }

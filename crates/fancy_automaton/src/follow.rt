@@ -228,7 +228,6 @@ pub(crate) fn lengthen(attempt: &Attempt, cells: &Cells, from: Sole, idle: usize
     ensures row { result.stand.next < length cells.now.rows.lists.items }
     ensures placed { IsPlaced attempt.now cells.now result.stand }
     ensures forth { from.stand.place ≤ result.stand.place }
-    ensures start { result.start ≡ from.start }
     ensures found { is_some from.end ≡ true → is_some result.end ≡ true }
     ensures decided { (goal : Goal) → IsDecided attempt.now cells.now goal from
         → IsDecided attempt.now cells.now goal result }
@@ -243,16 +242,14 @@ pub(crate) fn lengthen(attempt: &Attempt, cells: &Cells, from: Sole, idle: usize
         let Some(column) = table.column(haystack[at.place]) else {
             break 'places;
         };
-        let mut later = end;
         let step = match table.at(at.next, at.first, column) {
             Entry::Unknown => break 'places,
             Entry::Quiet(step) => step,
             Entry::Matching(step) => {
-                later = Some(at.place);
+                end = Some(at.place);
                 step
             }
         };
-        end = later;
         at = stand_after(at, column, step);
     }
     Sole {

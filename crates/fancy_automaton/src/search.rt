@@ -1,6 +1,6 @@
 //! Searches by the automaton: the match that the runner finds, for code without groups.
 
-ghost use Rattle.std.specs.Prelude.{◌≡◌, ◌+◌, ◌-◌, ◌*◌, ◌≤◌, ℕ, Bool, false, None, IfOk, IfErr, length, option_map, replicate};
+ghost use Rattle.std.specs.Prelude.{◌≡◌, ◌+◌, ◌-◌, ◌*◌, ◌≤◌, ℕ, Bool, None, if◌then◌else◌, IfOk, IfErr, length, option_map, replicate};
 ghost use Rattle.fancy_tree.specs.Pattern.{Pattern};
 ghost use Rattle.fancy_input.specs.Requests.{effective_start};
 ghost use Rattle.fancy_code.specs.Code.{instrs_of};
@@ -16,7 +16,7 @@ ghost use Rattle.fancy_automaton.specs.Search.{BegunIn, KeepsPlaces, at_position
 ghost use Rattle.fancy_automaton.specs.Counts.{AddsSteps};
 ghost use Rattle.fancy_automaton.specs.Sole.{IsSole};
 
-use crate::anchored::end_at;
+use crate::anchored::span_at;
 use crate::cells::{Cells, MORE_ROOM, ROOM, origin};
 use crate::follow::{Sole, follow, next_place};
 use crate::front::Front;
@@ -118,11 +118,11 @@ fn span_in(
         attempt.now.last attempt.now.base (attempt.now.last + 1)
         → steps_of work.new ≡ steps_of work.old }
 {
-    if !anchored {
-        return find_span(attempt, cells, work);
+    if anchored {
+        span_at(attempt, cells, work)
+    } else {
+        find_span(attempt, cells, work)
     }
-    let end = end_at(attempt, cells, work)?;
-    Ok(span_from(attempt.base, end))
 }
 
 /// Searches a haystack for the pattern of plain code: the match that the runner's search finds, in byte offsets. No group takes

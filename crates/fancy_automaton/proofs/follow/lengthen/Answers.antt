@@ -1,11 +1,12 @@
-use Rattle.std.proofs.Common.{◌≡◌, ◌∙◌, ◌⊎◌, List, ap, arith, get_or, replicate, length, Option, ℕ, subst, sym, is_some}
+use Rattle.std.proofs.Common.{◌<◌, ◌∙◌, ap, arith, get_or, length, Option, ℕ, subst, sym, is_some}
 use Rattle.fancy_alphabet.proofs.NumberLemmas.{seen_low}
 use Rattle.fancy_alphabet.specs.Sides.{seen_as}
+use Rattle.fancy_automaton.specs.Cells.{ways_at}
+use Rattle.fancy_automaton.specs.Decided.{Decided, IsPlaced, Opens}
 use Rattle.fancy_automaton.specs.declared.hop.Stand.{Stand}
-use Rattle.fancy_automaton.specs.declared.origin.Origin.TheVariants.{Earlier, Last}
-use Rattle.fancy_automaton.specs.Sole.{IsAt, IsSole, match_from, stood}
 use Rattle.fancy_automaton.specs.declared.transitions.Transition.{Transition}
-use Rattle.fancy_automaton.proofs.SoleLemmas.{is_one, later_found, later_quiet, reads, some_of}
+use Rattle.fancy_automaton.proofs.SoleLemmas.{reads}
+use Rattle.fancy_automaton.proofs.WalkLemmas.{Walked, walked_found, walked_quiet}
 use Rattle.fancy_automaton.proofs.follow.lengthen.Goals as goal
 use Rattle.fancy_automaton.proofs.follow.lengthen.Goals.{in-Quiet, in-Matching}
 
@@ -15,29 +16,37 @@ places-preserved c =
     let cells = c.args.cells.now in
     let at = c.places.at in
     let byte = get_or a.haystack.now at.place 0 in
-    let start = c.args.from.start in
-    let some = some_of c.places.end c.places.invariant.found in
-    let here = subst (λ (o : Option ℕ). (ways : List ℕ) × IsAt a cells at ways (replicate (length ways) start) (match_from start o)) some.1 c.places.invariant.sole in
-    let is = here.1 in
+    let placed = c.places.invariant.placed in
+    let classes = cells.table.classes in
     let column = c.in-Some.column in
-    let r = reads a cells at c.view-table.result at.next column is.followed c.view-table.ensures.view (omega arith) (sym c.in-Some.ensures) in
-    let one = is_one c.match-at.step.origin c.in_default-origin.not-Mixed in
-    let moved : IsSole a cells (record { stand = stood at column c.match-at.step; start = start; end = c.match-at.later }) =
+    let seen = sym c.in-Some.ensures in
+    let view = c.view-table.ensures.view in
+    let r = reads a cells at c.view-table.result at.next column c.requires.followed view (omega arith) seen in
+    let side = seen_as classes.tests placed.begins.0 in
+    let low = seen_low classes.tests placed.begins.0 in
+    let step = c.match-at.step in
+    let walked : Walked a cells at column step c.places.end c.match-at.end =
     elim c.match-at.branch [
-      | in-Quiet w ↦ subst (λ (t : Transition). IsSole a cells (record { stand = stood at column t; start = start; end = c.match-at.later })) (sym w.step-is)
-          (subst (λ (o : Option ℕ). IsSole a cells (record { stand = stood at column w.in-Quiet.step; start = start; end = o })) (sym (w.later-is ∙ some.1))
-          (later_quiet a cells at byte column w.in-Quiet.step here.0 start (record { start = start; end = some.0 }) is r (w.in-Quiet.ensures.told cells.cells.items cells.table (seen_as cells.table.classes.tests is.begins.0) byte c.view-table.ensures.view is.kept.told (seen_low cells.table.classes.tests is.begins.0) is.begins.2 (sym c.in-Some.ensures))
-          (subst (λ (t : Transition). (t.origin ≡ Earlier) ⊎ (t.origin ≡ Last)) w.step-is one)))
-      | in-Matching w ↦ subst (λ (t : Transition). IsSole a cells (record { stand = stood at column t; start = start; end = c.match-at.later })) (sym w.step-is)
-          (subst (λ (o : Option ℕ). IsSole a cells (record { stand = stood at column w.in-Matching.step; start = start; end = o })) (sym w.later-is)
-          (later_found a cells at byte column w.in-Matching.step here.0 start (record { start = start; end = some.0 }) is r (w.in-Matching.ensures.told cells.cells.items cells.table (seen_as cells.table.classes.tests is.begins.0) byte c.view-table.ensures.view is.kept.told (seen_low cells.table.classes.tests is.begins.0) is.begins.2 (sym c.in-Some.ensures))
-          (subst (λ (t : Transition). (t.origin ≡ Earlier) ⊎ (t.origin ≡ Last)) w.step-is one)))
+      | in-Quiet w ↦ subst (λ (t : Transition). Walked a cells at column t c.places.end c.match-at.end) (sym w.step-is)
+          (subst (λ (o : Option ℕ). Walked a cells at column w.in-Quiet.step c.places.end o) (sym w.end-is)
+          (walked_quiet a cells at byte column w.in-Quiet.step c.requires.followed c.requires.kept c.places.invariant.row placed r
+          (w.in-Quiet.ensures.told cells.cells.items cells.table side byte view c.requires.kept.bounded.told low placed.begins.2 seen) c.places.end))
+      | in-Matching w ↦ subst (λ (t : Transition). Walked a cells at column t c.places.end c.match-at.end) (sym w.step-is)
+          (subst (λ (o : Option ℕ). Walked a cells at column w.in-Matching.step c.places.end o) (sym w.end-is)
+          (walked_found a cells at byte column w.in-Matching.step c.requires.followed c.requires.kept c.places.invariant.row placed r
+          (w.in-Matching.ensures.told cells.cells.items cells.table side byte view c.requires.kept.bounded.told low placed.begins.2 seen) c.places.end))
     ] in
+    let e = sym c.stand_after-at.ensures in
     record {
-      sole = subst (λ (st : Stand). IsSole a cells (record { stand = st; start = start; end = c.match-at.later })) (sym c.stand_after-at.ensures) moved;
-      found = elim c.match-at.branch [
-        | in-Quiet w ↦ ap (λ (o : Option ℕ). is_some o) w.later-is ∙ c.places.invariant.found
-        | in-Matching w ↦ ap (λ (o : Option ℕ). is_some o) w.later-is
-      ];
+      row = subst (λ (st : Stand). st.next < length cells.rows.lists.items) e walked.row;
+      placed = subst (IsPlaced a cells) e walked.placed;
       forth = omega (arith, c.places.invariant.forth, ap (λ (st : Stand). st.place) c.stand_after-at.ensures);
+      found = λ some. elim c.match-at.branch [
+        | in-Quiet w ↦ ap (λ (o : Option ℕ). is_some o) w.end-is ∙ c.places.invariant.found some
+        | in-Matching w ↦ ap (λ (o : Option ℕ). is_some o) w.end-is
+      ];
+      decided = λ goal is.
+          subst (λ (st : Stand). Decided a goal c.args.from.start (ways_at cells.rows.lists.items st.next) c.match-at.end st.place) e
+          (walked.decided goal c.args.from.start (c.places.invariant.decided goal is));
+      opens = λ is. subst (Opens a cells) e walked.opens;
     }

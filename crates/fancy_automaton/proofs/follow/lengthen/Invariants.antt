@@ -1,12 +1,17 @@
-use Rattle.std.proofs.Common.{◌≡◌, ◌-◌, ◌≤◌, true, is_some}
-use Rattle.fancy_automaton.specs.Sole.{IsSole}
+use Rattle.std.proofs.Common.{◌≡◌, ◌-◌, ◌<◌, ◌≤◌, length, true, is_some}
+use Rattle.fancy_automaton.specs.Cells.{ways_at}
+use Rattle.fancy_automaton.specs.Decided.{Decided, Goal, IsDecided, IsPlaced, Opens}
 use Rattle.fancy_automaton.proofs.follow.lengthen.Given as goal
 
 abbrev pub invariant-places : goal.invariant-places
 invariant-places l = record {
-  sole : IsSole l.attempt l.cells (record { stand = l.at; start = l.fn.from.start; end = l.end });
-  found : is_some l.end ≡ true;
+  row : l.at.next < length l.cells.rows.lists.items;
+  placed : IsPlaced l.attempt l.cells l.at;
   forth : l.fn.from.stand.place ≤ l.at.place;
+  found : is_some l.fn.from.end ≡ true → is_some l.end ≡ true;
+  decided : (goal : Goal) → IsDecided l.attempt l.cells goal l.fn.from
+      → Decided l.attempt goal l.fn.from.start (ways_at l.cells.rows.lists.items l.at.next) l.end l.at.place;
+  opens : Opens l.attempt l.cells l.fn.from.stand → Opens l.attempt l.cells l.at;
 }
 
 abbrev pub decreases-places : goal.decreases-places
