@@ -10,6 +10,7 @@ ghost use Rattle.fancy_core.specs.Limited.{RefusesAt, AllowsAt};
 ghost use Rattle.fancy_core.specs.Regexes.{options_in, program_in, easy_in, group_count_in, step_limit_in, query};
 ghost use Rattle.fancy_core.specs.Searches.{CanSearchInput, asked_by, groups_of_attempt};
 ghost use Rattle.fancy_search.specs.Cached.{IsAttemptIn, found_at};
+ghost use Rattle.fancy_search.specs.Programs.{query_in};
 ghost use Rattle.fancy_search.specs.Groups.{AreCut, spans_of};
 ghost use Rattle.fancy_search.specs.KeptTables.{KeepsNotes, kept_from, notes_ahead, notes_to_go};
 ghost use Rattle.fancy_search.specs.SearchCounts.{IsOutOfSteps};
@@ -200,6 +201,46 @@ pub fn find_at(
         .program
         .attempt_at(&asked, position, notes, cache, &mut work);
     cache.work.add_attempt(&work);
+    found
+}
+
+/// The match that an attempt at one position finds, as [`find_at`], for lists of attempts each of which starts where a match of some
+/// regex ended, as those of tokens do. All of them together take time in proportion to the haystack.
+///
+/// It is refused as [`attempt_at`] is.
+pub fn find_in_list(
+    regex: &Regex,
+    asked: &Asked<'_>,
+    position: usize,
+    notes: &mut AttemptNotes,
+    cache: &mut AttemptCache,
+) -> Result<Option<Found>>
+    requires starts { effective_start asked.now.request ≤ position }
+    requires ends { position ≤ asked.now.request.range_end }
+    requires known { AreKnown cache.old.known asked.now.haystack.now }
+    requires notes { KeepsNotes (program_in regex.now)
+        asked.now.haystack.now asked.now.request position notes.old }
+    ensures notes { IfOk result (λ m. KeepsNotes (program_in regex.now)
+        asked.now.haystack.now asked.now.request (kept_from m position) notes.new) }
+    ensures known { AreKnown cache.new.known asked.now.haystack.now }
+    ensures paired { returns_of cache.old.work ≤ steps_of cache.old.work
+        → returns_of cache.new.work ≤ steps_of cache.new.work }
+    ensures limit { IsWithin (step_limit_in regex.now) cache.old.work
+        → IsWithin (step_limit_in regex.now) cache.new.work }
+    ensures limited { IsOutOfSteps result → IsSpent (step_limit_in regex.now) cache.new.work }
+    ensures grows { work_of cache.old.work ≤ work_of cache.new.work }
+    ensures found { IfOk result (λ m.
+        IsAttemptIn m cache.new.engines (query_in (program_in regex.now) asked.now) position) }
+    ensures refused { IfErr result (λ e.
+        RefusesAt regex.now (query_in (program_in regex.now) asked.now) position e) }
+    ensures allowed { IfOk result (λ _.
+        AllowsAt regex.now (query_in (program_in regex.now) asked.now) position) }
+{
+    let mut counts = Work::after(&cache.work);
+    let found = regex
+        .program
+        .attempt_in_list(asked, position, notes, cache, &mut counts);
+    cache.work.add_attempt(&counts);
     found
 }
 

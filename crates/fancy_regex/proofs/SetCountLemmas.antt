@@ -17,7 +17,9 @@ use Rattle.fancy_code.proofs.MarkingLemmas.{times_le, either_side}
 use Rattle.fancy_code.proofs.SumLemmas.{sum_le, sum_less}
 use Rattle.fancy_search.specs.declared.cache.AttemptNotes.{AttemptNotes}
 use Rattle.fancy_search.specs.declared.program.Program.{Program}
-use Rattle.fancy_search.specs.KeptTables.{KeepsNotes, notes_again}
+use Rattle.fancy_search.specs.declared.cache.Kept.{Kept}
+use Rattle.fancy_search.specs.declared.cache.Kept.TheVariants.{Nothing}
+use Rattle.fancy_search.specs.KeptTables.{KeepsNotes, notes_again, table_kept}
 use Rattle.fancy_search.specs.Options.{search_options}
 use Rattle.fancy_core.specs.declared.regex.Regex.{Regex}
 use Rattle.fancy_core.specs.Limited.{most_steps_of}
@@ -56,7 +58,7 @@ none_again (Some k) code place past = rw (le-ltb place k.from past) refl
 -- so it is at the position after one at which nothing was found
 pub none_again_after : (program : Program) (haystack : List ℕ) (request : Request) (position : ℕ) (notes : AttemptNotes)
     → KeepsNotes program haystack request position notes → notes_again program (position + 1) notes ≡ 0
-none_again_after program haystack request position notes is = none_again notes.kept program.code (position + 1) (at notes.kept is) where
+none_again_after program haystack request position notes is = none_again (table_kept notes.kept) program.code (position + 1) (at (table_kept notes.kept) is.0) where
   at : (kept : Option KeptTable) → IfSome kept (λ k. IsKept program.code haystack (record request { start = 0; anchored = false }) (search_options program.options) k position notes.notes)
       → IfSome kept (λ k. k.from ≤ position + 1)
   at None is = tt
@@ -68,13 +70,13 @@ module _ (member : Regex) (request : Request) where
   fewer_left place later None le =
       omega (arith, times_le (request.range_end + 1 - later) (request.range_end + 1 - place) (length_in member) (omega (arith, le)))
   fewer_left place later (Some notes) le =
-      omega (arith, fewer_ahead notes.kept member.program.code request place later notes.notes.table le, fewer_again notes.kept member.program.code place later le)
+      omega (arith, fewer_ahead (table_kept notes.kept) member.program.code request place later notes.notes.table le, fewer_again (table_kept notes.kept) member.program.code place later le)
 
   -- as many are left where nothing was found out as where the member was not tried
-  fresh_left : (place : ℕ) (new : Option AttemptNotes) → IfSome new (λ notes. notes.kept ≡ None) → steps_left member request place new ≡ steps_left member request place None
+  fresh_left : (place : ℕ) (new : Option AttemptNotes) → IfSome new (λ notes. notes.kept ≡ Nothing) → steps_left member request place new ≡ steps_left member request place None
   fresh_left place None fresh = refl
   fresh_left place (Some notes) fresh =
-      ap (λ (k : Option KeptTable). steps_from k member.program.code request place notes.notes.table + taken_again k member.program.code place) fresh ∙ omega arith
+      ap (λ (k : Kept). steps_from (table_kept k) member.program.code request place notes.notes.table + taken_again (table_kept k) member.program.code place) fresh ∙ omega arith
 
   -- notes that are as they were, or new, leave as many
   pub left_stays : (place : ℕ) (old new : Option AttemptNotes) → IsOldOrNew old new → steps_left member request place new ≡ steps_left member request place old

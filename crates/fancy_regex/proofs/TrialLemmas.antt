@@ -7,6 +7,7 @@ use Rattle.fancy_core.specs.declared.regex.Regex.{Regex}
 use Rattle.fancy_core.specs.Regexes.{program_in}
 use Rattle.fancy_code.proofs.MarkingLemmas.{either_side}
 use Rattle.fancy_search.specs.declared.cache.AttemptNotes.{AttemptNotes}
+use Rattle.fancy_search.specs.declared.cache.Kept.TheVariants.{Nothing}
 use Rattle.fancy_code.specs.declared.found.Found.{Found}
 use Rattle.fancy_search.specs.KeptTables.{KeepsNotes, kept_from}
 use Rattle.fancy_search.proofs.KeptTablesLemmas.{noted_later}
@@ -38,7 +39,7 @@ reaches_it place found f is le = subst (λ (o : Option Found). kept_from o place
   at false = le
 
 -- notes that nothing was found out in are new
-pub noted_pushed : (xs : List AttemptNotes) (x : AttemptNotes) (k : ℕ) → x.kept ≡ None → IsOldOrNew (slice_get xs k) (slice_get (xs ++ x ∷ []) k)
+pub noted_pushed : (xs : List AttemptNotes) (x : AttemptNotes) (k : ℕ) → x.kept ≡ Nothing → IsOldOrNew (slice_get xs k) (slice_get (xs ++ x ∷ []) k)
 noted_pushed [] x zero none = inr (refl, none)
 noted_pushed [] x (suc k) none = inl refl
 noted_pushed (y ∷ ys) x zero none = inl refl
@@ -76,14 +77,14 @@ stay_but index old mid items others same k apart = subst (λ (n : Option Attempt
 
 module _ (q : SetQuery) where
   -- notes that are new are kept for any place
-  is_noted_new : (member : Regex) (place : ℕ) (notes : AttemptNotes) → notes.kept ≡ None → KeepsNotes (program_in member) q.haystack q.request place notes
-  is_noted_new member place notes none = rw none tt
+  is_noted_new : (member : Regex) (place : ℕ) (notes : AttemptNotes) → notes.kept ≡ Nothing → KeepsNotes (program_in member) q.haystack q.request place notes
+  is_noted_new member place notes none = rw none (tt, λ e. cc)
 
   -- so are those that are as they were, for the place that they were kept for
   is_noted_still : (member : Regex) (place k : ℕ) (old : Trials) (new : Option AttemptNotes) (notes : AttemptNotes) → new ≡ Some notes → IsOldOrNew (notes_at old k) new
       → NotedAt k member q.haystack q.request place old → KeepsNotes (program_in member) q.haystack q.request place notes
   is_noted_still member place k old new notes is (inl same) noted = noted notes (sym same ∙ is)
-  is_noted_still member place k old new notes is (inr fresh) noted = is_noted_new member place notes (subst (λ (n : Option AttemptNotes). IfSome n (λ m. m.kept ≡ None)) is fresh.1)
+  is_noted_still member place k old new notes is (inr fresh) noted = is_noted_new member place notes (subst (λ (n : Option AttemptNotes). IfSome n (λ m. m.kept ≡ Nothing)) is fresh.1)
 
   -- what a member found out is as it was, or new
   pub noted_still : (member : Regex) (place k : ℕ) (old new : Trials) → OthersStay old new → NotedAt k member q.haystack q.request place old → NotedAt k member q.haystack q.request place new

@@ -4,6 +4,7 @@ use Rattle.fancy_input.specs.declared.input.Request.{Request}
 use Rattle.fancy_core.specs.declared.regex.Regex.{Regex}
 use Rattle.fancy_core.specs.Regexes.{program_in}
 use Rattle.fancy_search.specs.declared.cache.AttemptNotes.{AttemptNotes}
+use Rattle.fancy_search.specs.declared.cache.Kept.TheVariants.{Nothing}
 use Rattle.fancy_search.specs.KeptTables.{KeepsNotes}
 use Rattle.fancy_regex.specs.SetMembers.{SetQuery}
 use Rattle.fancy_regex.specs.declared.set.trials.Trials.{Trials}
@@ -31,7 +32,7 @@ AreNotedBelow to q place trials = AreNoted (λ k. k < to) q place trials
 
 -- the notes of a member are as they were, or there were none, and nothing was found out since
 abbrev pub IsOldOrNew : Option AttemptNotes → Option AttemptNotes → Type 0
-IsOldOrNew old new = (new ≡ old) ⊎ ((old ≡ None) × IfSome new (λ notes. notes.kept ≡ None))
+IsOldOrNew old new = (new ≡ old) ⊎ ((old ≡ None) × IfSome new (λ notes. notes.kept ≡ Nothing))
 
 -- the notes of all members are as they were, or new
 abbrev pub OthersStay : Trials → Trials → Type 0

@@ -1,6 +1,8 @@
 -- What is kept from one search of a list to the next.
-use Rattle.std.proofs.Common.{◌≡◌, ℕ, ◌+◌, ◌≤◌, Bool, true, false, List, Option, Some, None, IfSome, IfNone, refl, sym, ap, ap₂, ◌∙◌, subst, arith, eqb-true, eq-eqb}
-use Rattle.std.specs.Prelude.{nat_eq, option_map, if◌then◌else◌}
+use Rattle.std.proofs.Common.{◌≡◌, ℕ, ◌+◌, ◌≤◌, Bool, true, false, List, Option, Some, None, IfSome, IfNone, refl, sym, ap, ap₂, ◌∙◌, subst, arith, eqb-true, eq-eqb, true≢false}
+use Rattle.std.specs.Prelude.{nat_eq, option_map, if◌then◌else◌, Box}
+use Rattle.std.specs.Global.{Global}
+use Rattle.fancy_automaton.specs.declared.cells.Cells.{Cells}
 use Rattle.std.specs.Option.{ForSome}
 use Rattle.std.proofs.lemmas.Option.{none-some, same_Some}
 use Rattle.fancy_input.specs.Requests.{effective_start, positions}
@@ -21,9 +23,9 @@ use Rattle.fancy_search.specs.declared.cache.AttemptNotes.{AttemptNotes}
 use Rattle.fancy_search.specs.declared.cache.Cache.{Cache}
 use Rattle.fancy_search.specs.declared.program.Program.{Program}
 use Rattle.fancy_search.specs.declared.cache.Kept.{Kept}
-use Rattle.fancy_search.specs.declared.cache.Kept.TheVariants.{Nothing, Table, Steps, Lines}
+use Rattle.fancy_search.specs.declared.cache.Kept.TheVariants.{Nothing, Runner, Steps, Lines}
 use Rattle.fancy_search.specs.Options.{search_options}
-use Rattle.fancy_search.specs.KeptTables.{KeepsTable, KeepsSteps, KeepsLines, KeepsNotes, IsKeptIn, KeepsOn, table_kept, of_table, kept_from}
+use Rattle.fancy_search.specs.KeptTables.{KeepsTable, KeepsSteps, KeepsLines, KeepsNotes, HoldsSteps, IsKeptIn, KeepsOn, table_kept, is_steps, kept_from}
 
 -- what is kept for a place is kept for a later one, whichever positions are tried
 pub kept_later : (code : Code) (haystack : List ℕ) (request : Request) (options : SearchOptions) (kept : KeptTable) (place later start : ℕ) (anchored : Bool) (notes : Notes) → place ≤ later
@@ -50,23 +52,22 @@ module _ (program : Program) (haystack : List ℕ) (cache : Cache) where
       subst (λ (k : Kept). IsKeptIn program haystack request k place cache) (sym is) ((λ base e. absurd (none-some base e)), (λ e. cc), (λ e. cc))
 
   -- a table is kept
-  pub keeps_table : (request : Request) (kept : KeptTable) (place : ℕ) → KeepsTable program haystack request kept place cache → IsKeptIn program haystack request (Table kept) place cache
+  pub keeps_table : (request : Request) (kept : KeptTable) (place : ℕ) → KeepsTable program haystack request kept place cache → IsKeptIn program haystack request (Runner (Some kept)) place cache
   keeps_table request kept place is = ((λ b e. subst (λ (n : KeptTable). KeepsTable program haystack request n place cache) (same_Some kept b e) is), (λ e. cc), (λ e. cc))
-
-  -- steps are kept
-  pub keeps_steps : (request : Request) (place : ℕ) → KeepsSteps program cache → IsKeptIn program haystack request Steps place cache
-  keeps_steps request place is = ((λ base e. absurd (none-some base e)), (λ e. is), (λ e. cc))
 
   -- either is kept for the search after a match, if there is one
   pub found_table : (request : Request) (kept : Option KeptTable) (m : Option Found) → IfSome kept (λ k. KeepsTable program haystack request k (place_kept m request) cache)
-      → IfSome m (λ f. IsKeptIn program haystack request (of_table kept) f.end cache)
+      → IfSome m (λ f. IsKeptIn program haystack request (Runner kept) f.end cache)
   found_table request kept None is = tt
-  found_table request None (Some f) is = keeps_nothing request Nothing f.end refl
+  found_table request None (Some f) is = ((λ base e. absurd (none-some base e)), (λ e. cc), (λ e. cc))
   found_table request (Some k) (Some f) is = keeps_table request k f.end is
 
-  pub found_steps : (request : Request) (m : Option Found) → KeepsSteps program cache → IfSome m (λ f. IsKeptIn program haystack request Steps f.end cache)
-  found_steps request None is = tt
-  found_steps request (Some f) is = keeps_steps request f.end is
+  pub found_steps : (request : Request) (kept : Kept) (m : Option Found) → is_steps kept ≡ true → KeepsSteps program cache.cells → IfSome m (λ f. IsKeptIn program haystack request kept f.end cache)
+  found_steps request kept None steps is = tt
+  found_steps request Nothing (Some f) steps is = absurd (true≢false (sym steps))
+  found_steps request (Runner table) (Some f) steps is = absurd (true≢false (sym steps))
+  found_steps request Lines (Some f) steps is = absurd (true≢false (sym steps))
+  found_steps request (Steps read) (Some f) steps is = ((λ base e. absurd (none-some base e)), (λ e. is), (λ e. cc))
 
   pub found_lines : (request : Request) (m : Option Found) → IfSome m (λ f. KeepsLines haystack cache) → IfSome m (λ f. IsKeptIn program haystack request Lines f.end cache)
   found_lines request None is = tt
@@ -105,7 +106,8 @@ if_some_at o p Is e is = rw e (if_some p Is is)
 -- what attempts found out is kept for those at a later place
 pub noted_later : (program : Program) (haystack : List ℕ) (request : Request) (place later : ℕ) (notes : AttemptNotes) → place ≤ later
     → KeepsNotes program haystack request place notes → KeepsNotes program haystack request later notes
-noted_later program haystack request place later notes le is = kept_if program.code haystack (record request { start = 0; anchored = false }) (search_options program.options) notes.kept place later 0 false notes.notes le is
+noted_later program haystack request place later notes le is =
+    (kept_if program.code haystack (record request { start = 0; anchored = false }) (search_options program.options) (table_kept notes.kept) place later 0 false notes.notes le is.0, is.1)
 
 -- it is kept on by an attempt that does not use it
 pub noted_past : (program : Program) (asked : Asked) (position : ℕ) (notes : AttemptNotes) (m : Option Found) → IfSome m (StandsIn program asked)
@@ -127,21 +129,44 @@ module _ (request : Request) (position : ℕ) (starts : effective_start request 
 -- what attempts found out is kept for the search that is anchored at the position
 pub noted_before : (program : Program) (haystack : List ℕ) (request : Request) (position : ℕ) (notes : AttemptNotes)
     → KeepsNotes program haystack request position notes
-    → IfSome notes.kept (λ k. IsKept program.code haystack (record request { start = position; anchored = true }) (search_options program.options) k (effective_start (record request { start = position; anchored = true })) notes.notes)
+    → IfSome (table_kept notes.kept) (λ k. IsKept program.code haystack (record request { start = position; anchored = true }) (search_options program.options) k (effective_start (record request { start = position; anchored = true })) notes.notes)
 noted_before program haystack request position notes is =
-    kept_if program.code haystack (record request { start = 0; anchored = false }) (search_options program.options) notes.kept position _ position true notes.notes (omega arith) is
+    kept_if program.code haystack (record request { start = 0; anchored = false }) (search_options program.options) (table_kept notes.kept) position _ position true notes.notes (omega arith) is.0
 
--- what that search leaves is kept for attempts
-pub noted_after : (program : Program) (haystack : List ℕ) (request : Request) (position : ℕ) (notes : AttemptNotes) (m : Option Found)
+-- what that search leaves is kept for attempts, by the runner
+pub noted_after : (program : Program) (haystack : List ℕ) (request : Request) (position : ℕ) (kept : Option KeptTable) (notes : AttemptNotes) (m : Option Found) → notes.kept ≡ Runner kept
     → effective_start request ≤ position → position ≤ request.range_end → IfSome m (λ f. f.start ≡ position)
-    → IfSome notes.kept (λ k. IsKept program.code haystack (record request { start = position; anchored = true }) (search_options program.options) k (place_kept m (record request { start = position; anchored = true })) notes.notes)
+    → IfSome kept (λ k. IsKept program.code haystack (record request { start = position; anchored = true }) (search_options program.options) k (place_kept m (record request { start = position; anchored = true })) notes.notes)
     → KeepsNotes program haystack request (kept_from m position) notes
-noted_after program haystack request position notes m starts ends here is =
-    kept_if program.code haystack (record request { start = position; anchored = true }) (search_options program.options) notes.kept _ (kept_from m position) 0 false notes.notes (reached m here) is
+noted_after program haystack request position kept notes m left starts ends here is =
+    rw left (
+      kept_if program.code haystack (record request { start = position; anchored = true }) (search_options program.options) kept _ (kept_from m position) 0 false notes.notes (reached m here) is,
+      λ e. cc,
+    )
   where
     reached : (m : Option Found) → IfSome m (λ f. f.start ≡ position) → place_kept m (record request { start = position; anchored = true }) ≤ kept_from m position
     reached None here = omega (arith, begins_at request position starts ends, one_tried request position starts ends)
     reached (Some f) here = rw (eq-eqb f.start position here) (omega arith)
+
+-- where steps are kept, and held, they are kept for any place
+pub noted_steps : (program : Program) (haystack : List ℕ) (request : Request) (place : ℕ) (notes : AttemptNotes) → is_steps notes.kept ≡ true → HoldsSteps program notes.cells
+    → KeepsNotes program haystack request place notes
+noted_steps program haystack request place notes steps holds = rw (no_table notes.kept steps) (tt, λ _. holds) where
+  no_table : (kept : Kept) → is_steps kept ≡ true → table_kept kept ≡ None
+  no_table Nothing e = refl
+  no_table (Runner table) e = absurd (true≢false (sym e))
+  no_table (Steps read) e = refl
+  no_table Lines e = refl
+
+-- the steps that were held are taken out
+pub steps_taken : (program : Program) (held : Option (Box Cells Global)) (taken : Box Cells Global) → IfSome held (λ b. taken ≡ b) → HoldsSteps program held → KeepsSteps program taken.value
+steps_taken program (Some b) taken same holds = rw same holds
+steps_taken program None taken same holds = absurd holds
+
+-- where none are held, they are not taken out
+pub noted_still : (program : Program) (haystack : List ℕ) (request : Request) (place : ℕ) (notes : AttemptNotes) → notes.cells ≡ None
+    → KeepsNotes program haystack request place notes → KeepsNotes program haystack request place (record notes { cells = None })
+noted_still program haystack request place notes none is = (is.0, λ steps. subst (HoldsSteps program) none (is.1 steps))
 
 -- an attempt at a position that finds where it starts starts at the position
 pub starts_here : (q : Query) (p : ℕ) (groups : List (Option Span)) (m : Option Found) → answer_with groups m ≡ attempt q p → IfSome m (λ f. f.start ≡ f.position) → IfSome m (λ f. f.start ≡ p)
@@ -151,27 +176,22 @@ starts_here q p groups (Some f) e here = here ∙ at (answer_at q p) e where
   at None e = absurd (none-some _ (sym e))
   at (Some s) e = ap (λ (a : Answer). a.position) (same_Some _ _ e)
 
--- a table that is kept is that which was
-kept_of : (kept : Option KeptTable) → table_kept (of_table kept) ≡ kept
-kept_of None = refl
-kept_of (Some k) = refl
-
 -- what a search of the runner leaves after a match: the steps that it took are no longer ahead, and the table goes on
 module _ (program : Program) (request : Request) (before : Kept) (table : Option KeptTable) where
   pub found_spent : (m : Option Found) → IfSome m (λ f. table ≡ Some (record { base = base_of (table_kept before) (effective_start request); from = f.end + 1 }))
       → (cache : Cache) (old new : ℕ)
       → IfSome m (λ f. new + steps_ahead program.code request (base_of (table_kept before) (effective_start request)) f.end (table_in cache.runner) ≤ old)
-      → IfSome m (λ f. ForSome (table_kept (of_table table)) (λ k. new + steps_ahead program.code request k.base f.end (table_in cache.runner) ≤ old))
+      → IfSome m (λ f. ForSome table (λ k. new + steps_ahead program.code request k.base f.end (table_in cache.runner) ≤ old))
   found_spent None left cache old new spent = tt
   found_spent (Some f) left cache old new spent = λ k e.
-      subst (λ (k : KeptTable). new + steps_ahead program.code request k.base f.end (table_in cache.runner) ≤ old) (same_Some _ k (sym left ∙ sym (kept_of table) ∙ e)) spent
+      subst (λ (k : KeptTable). new + steps_ahead program.code request k.base f.end (table_in cache.runner) ≤ old) (same_Some _ k (sym left ∙ e)) spent
 
   pub found_goes_on : (m : Option Found) → IfSome m (λ f. table ≡ Some (record { base = base_of (table_kept before) (effective_start request); from = f.end + 1 }))
-      → IfSome m (λ f. KeepsOn before (of_table table))
+      → IfSome m (λ f. KeepsOn before (Runner table))
   found_goes_on None left = tt
   found_goes_on (Some f) left = (
-    (λ e. let no : Table _ ≡ Nothing = sym (ap of_table left) ∙ e in cc),
-    (λ k e. ap (option_map (λ (l : KeptTable). l.base)) (kept_of table ∙ left) ∙ ap (λ (o : Option KeptTable). Some (base_of o (effective_start request))) e),
+    (λ e. cc),
+    (λ k e. ap (option_map (λ (l : KeptTable). l.base)) left ∙ ap (λ (o : Option KeptTable). Some (base_of o (effective_start request))) e),
   )
 
 -- what follows where nothing was found

@@ -1,6 +1,7 @@
 -- What is kept through a list of searches, or through attempts from position to position: the table of the runner and what it read of
 -- the line ends that close the haystack, the steps that the automaton remembers, or what the machine read of these line ends.
-use Rattle.std.specs.Prelude.{◌≡◌, ◌≤◌, ◌+◌, ℕ, false, List, Option, Result, Some, None, IfSome, IfOk, IfErr, option_map, nat_eq, if◌then◌else◌}
+use Rattle.std.specs.Global.{Box}
+use Rattle.std.specs.Prelude.{◌≡◌, ◌≤◌, ◌+◌, ℕ, Bool, true, false, List, Option, Result, Some, None, IfSome, IfOk, IfErr, option_map, nat_eq, if◌then◌else◌}
 use Rattle.std.specs.Option.{ForSome}
 use Rattle.fancy_tree.specs.declared.error.Error.{Error}
 use Rattle.fancy_input.specs.LastLines.{KnowsLastLines}
@@ -11,6 +12,7 @@ use Rattle.fancy_input.specs.Work.{steps_of}
 use Rattle.fancy_code.specs.declared.found.Found.{Found}
 use Rattle.fancy_runner.specs.declared.notes.KeptTable.{KeptTable}
 use Rattle.fancy_input.specs.declared.work.Work.{Work}
+use Rattle.fancy_automaton.specs.declared.cells.Cells.{Cells}
 use Rattle.fancy_automaton.specs.Cells.{IsBounded}
 use Rattle.fancy_automaton.specs.Remembered.{Remembers}
 use Rattle.fancy_machine.specs.Asked.{lines_held}
@@ -18,27 +20,30 @@ use Rattle.fancy_search.specs.declared.asked.Asked.{Asked}
 use Rattle.fancy_search.specs.declared.cache.AttemptNotes.{AttemptNotes}
 use Rattle.fancy_search.specs.declared.cache.Cache.{Cache}
 use Rattle.fancy_search.specs.declared.cache.Kept.{Kept}
-use Rattle.fancy_search.specs.declared.cache.Kept.TheVariants.{Nothing, Table, Steps, Lines}
+use Rattle.fancy_search.specs.declared.cache.Kept.TheVariants.{Nothing, Runner, Steps, Lines}
 use Rattle.fancy_search.specs.declared.program.Program.{Program}
 use Rattle.fancy_search.specs.declared.searcher.Searcher.{Searcher}
 use Rattle.fancy_search.specs.Options.{search_options}
 use Rattle.fancy_search.specs.Programs.{program_length}
+
+-- steps are kept
+abbrev pub is_steps : Kept → Bool
+is_steps Nothing = false
+is_steps (Runner kept) = false
+is_steps (Steps read) = true
+is_steps Lines = false
 
 -- The table in the cache is kept for searches with the program that start at `place` or later. What was read of the last lines is true
 -- of the haystack.
 abbrev pub KeepsTable : Program → List ℕ → Request → KeptTable → ℕ → Cache → Type 0
 KeepsTable program haystack request kept place cache = IsKept program.code haystack request (search_options program.options) kept place cache.runner.notes
 
+-- the table, if one is kept
 abbrev pub table_kept : Kept → Option KeptTable
 table_kept Nothing = None
-table_kept (Table kept) = Some kept
-table_kept Steps = None
+table_kept (Runner kept) = kept
+table_kept (Steps read) = None
 table_kept Lines = None
-
--- a table, if one is kept
-abbrev pub of_table : Option KeptTable → Kept
-of_table None = Nothing
-of_table (Some kept) = Table kept
 
 -- so many steps are ahead of the searches from one with this request on, with the table that is kept, if one is
 abbrev pub ahead_with : Program → Request → Option KeptTable → Cache → ℕ
@@ -67,10 +72,20 @@ SpendsSteps program request kept cache before left cache' after place =
 abbrev pub KeepsOn : Kept → Kept → Type 0
 KeepsOn before after = (after ≡ Nothing → ⊥) × ForSome (table_kept before) (λ k. option_map (λ (l : KeptTable). l.base) (table_kept after) ≡ Some k.base)
 
+-- The steps that the automaton remembers are of the program's code.
+abbrev pub KeepsSteps : Program → Cells → Type 0
+KeepsSteps program cells = Remembers cells program.code × IsBounded cells
+
+-- so are those that are held
+abbrev pub HoldsSteps : Program → Option (Box Cells) → Type 0
+HoldsSteps program None = ⊥
+HoldsSteps program (Some held) = KeepsSteps program held.value
+
 -- What attempts found out is kept for those at `place` or later. It is the same whichever positions the request tries.
 abbrev pub KeepsNotes : Program → List ℕ → Request → ℕ → AttemptNotes → Type 0
 KeepsNotes program haystack request place notes =
-    IfSome notes.kept (λ k. IsKept program.code haystack (record request { start = 0; anchored = false }) (search_options program.options) k place notes.notes)
+    IfSome (table_kept notes.kept) (λ k. IsKept program.code haystack (record request { start = 0; anchored = false }) (search_options program.options) k place notes.notes)
+    × (is_steps notes.kept ≡ true → HoldsSteps program notes.cells)
 
 -- From there on the notes of an attempt at a position are kept: from the end of a match that starts at the position, and else from the
 -- position.
@@ -86,19 +101,15 @@ pub record LeavesNotes (program : Program) (asked : Asked) (position : ℕ) (res
 -- so many steps are ahead of the attempts at `place` and later: what the marks are worth that were not made, and a start at each
 -- position; where no table is kept, one for each pair of an instruction and a place
 abbrev pub notes_ahead : Program → Request → ℕ → AttemptNotes → ℕ
-notes_ahead program request place notes = steps_from notes.kept program.code request place notes.notes.table
+notes_ahead program request place notes = steps_from (table_kept notes.kept) program.code request place notes.notes.table
 
 -- so many of them may be taken again by an attempt at `place`, if a match ended there
 abbrev pub notes_again : Program → ℕ → AttemptNotes → ℕ
-notes_again program place notes = taken_again notes.kept program.code place
+notes_again program place notes = taken_again (table_kept notes.kept) program.code place
 
 -- and so many may be taken by them
 abbrev pub notes_to_go : Program → Request → ℕ → AttemptNotes → ℕ
 notes_to_go program request place notes = notes_ahead program request place notes + notes_again program place notes
-
--- The steps that the automaton remembers are of the program's code.
-abbrev pub KeepsSteps : Program → Cache → Type 0
-KeepsSteps program cache = Remembers cache.cells program.code × IsBounded cache.cells
 
 -- What the machine read of the last lines is true of the haystack.
 abbrev pub KeepsLines : List ℕ → Cache → Type 0
@@ -107,7 +118,7 @@ KeepsLines haystack cache = KnowsLastLines haystack (lines_held cache.machine)
 -- what is kept in the cache, if anything is, is for searches with the program that start at `place` or later
 abbrev pub IsKeptIn : Program → List ℕ → Request → Kept → ℕ → Cache → Type 0
 IsKeptIn program haystack request kept place cache =
-    ForSome (table_kept kept) (λ k. KeepsTable program haystack request k place cache) × (kept ≡ Steps → KeepsSteps program cache)
+    ForSome (table_kept kept) (λ k. KeepsTable program haystack request k place cache) × (is_steps kept ≡ true → KeepsSteps program cache.cells)
     × (kept ≡ Lines → KeepsLines haystack cache)
 
 -- and for those that ask the same, but start at `place` or later

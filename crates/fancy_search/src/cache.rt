@@ -1,22 +1,22 @@
 //! What searches work in, by whichever engine.
 
-ghost use Rattle.std.specs.Prelude.{◌≡◌, ℕ, List, [], None, true, slice_index_or};
+ghost use Rattle.std.specs.Prelude.{◌≡◌, ℕ, List, [], None, IfOk, IfErr, IfSome, true, slice_index_or};
 ghost use Rattle.fancy_automaton.specs.Cells.{IsBounded};
 ghost use Rattle.fancy_automaton.specs.Remembered.{Remembers};
 ghost use Rattle.fancy_code.specs.declared.code.Code.{Code};
 ghost use Rattle.fancy_input.specs.Work.{steps_of, returns_of, units_of};
 
 use crate::following::{Lengths, is_long_enough};
+use crate::read_past::ReadPast;
 use fancy_automaton::cells::Cells;
 use fancy_bytes::lacking::KnownBytes;
-use fancy_code::found::Found;
 use fancy_input::input::Request;
 use fancy_input::span::Span;
 use fancy_input::work::Work;
 use fancy_machine::search as machine;
 use fancy_runner::notes::{KeptTable, Notes};
 use fancy_runner::search as runner;
-use std::alloc::Global;
+use std::alloc::{AllocError, Global};
 
 /// Which engine served a search.
 #[derive(Clone, Copy, PartialEq, Eq)]
@@ -30,47 +30,57 @@ pub enum Engine {
     Automaton(usize),
 }
 
-/// What a search of a list takes over from those before, which left it in the cache.
+/// What a search takes over from those before, of one list or from one position to the next, which left it in what they worked in.
 #[derive(Clone, Copy, PartialEq, Eq)]
 pub enum Kept {
     /// Nothing: it is a search alone, or the first one.
     Nothing,
-    /// The runner's table.
-    Table(KeptTable),
-    /// The steps that the automaton remembers.
-    Steps,
+    /// The runner's table, if the runner left one. It serves the next search too.
+    Runner(Option<KeptTable>),
+    /// The steps that the automaton remembers, of searches that read so far.
+    Steps(ReadPast),
     /// What the machine read of the line ends that close the haystack.
     Lines,
 }
 
 impl Kept {
-    ghost use Rattle.fancy_search.specs.KeptTables.{of_table, table_kept};
-
-    /// A table, if one is kept.
-    pub(crate) fn of_table(table: Option<KeptTable>) -> Kept
-        ensures { result ≡ of_table table }
-    {
-        match table {
-            Some(table) => Kept::Table(table),
-            None => Kept::Nothing,
-        }
-    }
+    ghost use Rattle.fancy_search.specs.KeptTables.{is_steps, table_kept};
 
     /// The table, if one is kept.
     pub(crate) fn table(self) -> Option<KeptTable>
         ensures { result ≡ table_kept self }
     {
         match self {
-            Kept::Table(table) => Some(table),
+            Kept::Runner(table) => table,
             _ => None,
         }
     }
 
-    /// Whether steps are kept.
-    pub(crate) fn is_steps(self) -> bool
-        ensures { result ≡ true → self ≡ Kept.Steps }
+    /// Whether a search is worth the automaton's steps: its text is not shorter than `shortest`, or the steps of searches before
+    /// are kept, which did not read much more than they came on by.
+    pub(crate) fn is_worth_steps(self, haystack: &[u8], request: Request, shortest: Lengths) -> bool
+        ensures { result ≡ true → table_kept self ≡ None }
     {
-        matches!(self, Kept::Steps)
+        match self {
+            Kept::Nothing => is_long_enough(haystack, request, shortest),
+            Kept::Steps(read) => read.is_little(),
+            Kept::Runner(_) | Kept::Lines => false,
+        }
+    }
+
+    /// Makes steps ready for a search that begins at `first`, a byte offset: those of the searches before, where they are kept, and else
+    /// none. How far these read is told.
+    pub(crate) fn ready(self, cells: &mut Cells, first: usize) -> ReadPast
+        requires within { is_steps self ≡ true → IsBounded cells.old }
+        ensures within { IsBounded cells.new }
+        ensures all { (code : Code) → (is_steps self ≡ true → Remembers cells.old code)
+            → Remembers cells.new code }
+    {
+        if let Kept::Steps(read) = self {
+            return read;
+        }
+        cells.clear();
+        ReadPast::new(first)
     }
 
     /// Whether it is kept what the machine read.
@@ -81,24 +91,23 @@ impl Kept {
     }
 }
 
-/// A list leaves the automaton once its searches have read so many bytes past the ends of their matches, where each byte that
-/// they came on by makes up for [`MADE_UP`].
-const READ_PAST: usize = 1024;
-
-/// For how many bytes past a match a byte makes up that a list comes on by.
-const MADE_UP: usize = 4;
-
 /// What the attempts with one program in one haystack found out, kept from position to position.
 pub struct AttemptNotes {
-    // which table is kept in the notes, if one is
-    pub(crate) kept: Option<KeptTable>,
+    // what is kept for the next attempt: where it is a table, in the notes
+    pub(crate) kept: Kept,
     pub(crate) notes: Notes,
+    // the steps that the automaton remembers, once it served
+    pub(crate) cells: Option<Box<Cells>>,
 }
 
 /// By hand, so that crates above do not prove it once more.
 impl Drop for AttemptNotes {
     fn drop(self) {
-        let AttemptNotes { kept: _, notes: _ } = self;
+        let AttemptNotes {
+            kept: _,
+            notes: _,
+            cells: _,
+        } = self;
     }
 }
 
@@ -107,11 +116,24 @@ impl AttemptNotes {
 
     /// Nothing was found out yet, and no memory is taken.
     pub fn new(alloc: Global) -> AttemptNotes
-        ensures nothing { result.kept ≡ None }
+        ensures nothing { result.kept ≡ Kept.Nothing }
     {
         AttemptNotes {
-            kept: None,
+            kept: Kept::Nothing,
             notes: Notes::new(alloc),
+            cells: None,
+        }
+    }
+
+    /// Takes the steps that the automaton remembers out of the notes. Where there are none yet, memory for them is taken.
+    pub(crate) fn take_cells(&mut self, alloc: Global) -> Result<Box<Cells>, AllocError>
+        ensures given { IfOk result (λ cells. IfSome self.old.cells (λ held. cells ≡ held)) }
+        ensures refused { IfErr result (λ _. self.old.cells ≡ None) }
+        ensures others { self.new ≡ record self.old { cells = None } }
+    {
+        match self.cells.take() {
+            Some(cells) => Ok(cells),
+            None => Ok(Box::new(alloc, Cells::new(alloc))?),
         }
     }
 }
@@ -151,15 +173,12 @@ pub struct Cache {
     pub(crate) runner: runner::Cache,
     pub(crate) machine: machine::Cache,
     pub(crate) cells: Cells,
-    /// How many bytes the automaton's searches of a list read past the ends of their matches, that were not made up for.
-    read_past: usize,
     /// Which engine worked in it last.
     pub(crate) served: Engine,
 }
 
 impl Cache {
     ghost use Rattle.fancy_search.specs.Cached.{cached_groups};
-    ghost use Rattle.fancy_search.specs.KeptTables.{table_kept};
 
     /// It has no memory yet, which the searches take, and holds no group.
     pub fn new(alloc: Global) -> Cache
@@ -169,7 +188,6 @@ impl Cache {
             runner: runner::Cache::new(alloc),
             machine: machine::Cache::new(alloc),
             cells: Cells::new(alloc),
-            read_past: 0,
             served: Engine::Runner,
         }
     }
@@ -184,54 +202,5 @@ impl Cache {
             Engine::Machine => self.machine.group(number),
             Engine::Automaton(_) => None,
         }
-    }
-
-    /// Whether a search is worth the automaton's steps: its text is not shorter than `shortest`, or the steps of searches before are kept, which did
-    /// not read much more than their list came on by.
-    pub(crate) fn is_worth_steps(
-        &self,
-        haystack: &[u8],
-        request: Request,
-        kept: Kept,
-        shortest: Lengths,
-    ) -> bool
-        ensures { result ≡ true → table_kept kept ≡ None }
-    {
-        match kept {
-            Kept::Nothing => is_long_enough(haystack, request, shortest),
-            Kept::Steps => self.read_past <= READ_PAST,
-            Kept::Table(_) | Kept::Lines => false,
-        }
-    }
-
-    /// Makes the automaton's steps ready: those of the searches before, where they are kept, and else none. They are kept then.
-    pub(crate) fn ready_steps(&mut self, kept: &mut Kept)
-        requires within { kept.old ≡ Kept.Steps → IsBounded self.old.cells }
-        ensures within { IsBounded self.new.cells }
-        ensures all { (code : Code) → (kept.old ≡ Kept.Steps → Remembers self.old.cells code)
-            → Remembers self.new.cells code }
-        ensures kept { kept.new ≡ Kept.Steps }
-        ensures others { self.new
-            ≡ record self.old { cells = self.new.cells; read_past = self.new.read_past } }
-    {
-        if kept.is_steps() {
-            return;
-        }
-        self.cells.clear();
-        self.read_past = 0;
-        *kept = Kept::Steps;
-    }
-
-    /// Notes how far the automaton read past what it found, in a search that began at `first`, a byte offset.
-    pub(crate) fn note_reached(&mut self, found: Option<Found>, first: usize)
-        ensures { self.new ≡ record self.old { read_past = self.new.read_past } }
-    {
-        let Some(found) = found else {
-            return;
-        };
-        let past = self.cells.reached().saturating_sub(found.end);
-        let forth = found.end.saturating_sub(first);
-        let read = self.read_past.saturating_add(past);
-        self.read_past = read.saturating_sub(forth.saturating_mul(MADE_UP));
     }
 }

@@ -1,10 +1,6 @@
 //! For which patterns the automaton is worth its steps.
 
-ghost use Rattle.std.specs.Prelude.{◌≡◌, true};
-ghost use Rattle.fancy_search.specs.Followed.{FollowsEach};
-
 use fancy_alphabet::side::Tests;
-use fancy_automaton::plain::is_plain;
 use fancy_code::code::Code;
 use fancy_input::input::Request;
 use fancy_prefilter::branches::WIDE;
@@ -57,18 +53,13 @@ fn is_told_little(prefilter: &Prefilter) -> bool {
     }
 }
 
-/// Whether the automaton is worth its steps for the code, and follows it. Where the first bytes of the alternatives tell them apart,
-/// the runner tries those alone that may match, which takes less.
-pub(crate) fn is_worth_following(code: &Code) -> bool
-    ensures { result ≡ true → FollowsEach code.now }
-{
+/// Whether searches with the code are worth the automaton's steps. Where the first bytes of the alternatives tell them apart, the
+/// runner tries those alone that may match, which takes less.
+pub(crate) fn is_worth_following(code: &Code) -> bool {
     if code.prefilter.has_words() {
         return false;
     }
-    if !is_told_little(&code.prefilter) && !opens_wide(code) {
-        return false;
-    }
-    is_plain(code)
+    is_told_little(&code.prefilter) || opens_wide(code)
 }
 
 /// The fewest bytes that a search alone, or the first of a list, goes over where the automaton serves it. Where the code tests

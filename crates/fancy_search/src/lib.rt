@@ -8,4 +8,5 @@ mod following;
 pub mod groups;
 pub mod options;
 pub mod program;
+mod read_past;
 pub mod searcher;

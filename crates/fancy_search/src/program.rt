@@ -1,6 +1,6 @@
 //! A compiled pattern: the code that is searched with, and what decides how.
 
-ghost use Rattle.std.specs.Prelude.{◌≡◌, ◌≤◌, ◌<◌, ◌+◌, ◌*◌, ◌^◌, ℕ, Bool, List, None, Some, IfOk, IfErr, IfSome, IfNone, IsUtf8, chars, true, false, length, string_bytes};
+ghost use Rattle.std.specs.Prelude.{◌≡◌, ◌≤◌, ◌<◌, ◌+◌, ◌*◌, ◌^◌, ℕ, replicate, Bool, List, None, Some, IfOk, IfErr, IfSome, IfNone, IsUtf8, chars, true, false, length, string_bytes};
 ghost use Rattle.std.specs.Option.{ForSome};
 ghost use Rattle.fancy_tree.specs.Pattern.{Pattern, pattern_of};
 ghost use Rattle.fancy_tree.specs.GroupNames.{names_of};
@@ -17,6 +17,7 @@ ghost use Rattle.fancy_runner.specs.KeptTable.{table_base, table_in, place_kept,
 ghost use Rattle.fancy_input.specs.Work.{steps_of, returns_of, units_of};
 ghost use Rattle.fancy_code.specs.Tried.{NoneTried};
 ghost use Rattle.fancy_code.specs.Search.{search};
+ghost use Rattle.fancy_code.specs.Queries.{answer_with};
 ghost use Rattle.fancy_automaton.specs.Futures.{ArePlain};
 ghost use Rattle.fancy_automaton.specs.Search.{KeepsPlaces};
 ghost use Rattle.fancy_bytes.specs.Lacks.{AreKnown, AreRequired};
@@ -35,6 +36,8 @@ use crate::asked::Asked;
 use crate::cache::{AttemptCache, AttemptNotes, Cache, Engine, Kept};
 use crate::following::{Lengths, is_worth_following, shortest_followed};
 use crate::options::Options;
+use fancy_automaton::cells::Cells;
+use fancy_automaton::plain::is_plain;
 use fancy_automaton::search as automaton;
 use fancy_bytes::lacking::{KnownBytes, RequiredBytes};
 use fancy_code::code::Code;
@@ -69,8 +72,10 @@ pub struct Program {
     code: Code,
     names: Names,
     easy: bool,
-    /// Whether the automaton is worth its steps, and follows the code.
+    /// Whether the automaton follows the code.
     plain: bool,
+    /// Whether searches are worth its steps, in texts that are not short.
+    worth_following: bool,
     /// The shortest texts that the automaton serves.
     shortest: Lengths,
     /// The bytes that every haystack with a match has.
@@ -104,6 +109,7 @@ impl Drop for Program {
             names: _,
             easy: _,
             plain: _,
+            worth_following: _,
             shortest: _,
             required: _,
             text_required: _,
@@ -149,12 +155,31 @@ fn required_text_of(
     RequiredText::new(alloc, tree, meaning)
 }
 
+/// The request for the attempt at one position alone.
+fn anchored_at(request: Request, position: usize) -> Request
+    ensures { result ≡ record request { start = position; anchored = true } }
+{
+    Request {
+        start: position,
+        anchored: true,
+        ..request
+    }
+}
+
+/// Where what was found ends, or where nothing was found, where the search began.
+fn end_of(found: Option<Found>, first: usize) -> usize {
+    match found {
+        Some(found) => found.end,
+        None => first,
+    }
+}
+
 impl Program {
     ghost use Rattle.fancy_search.specs.SearchCounts.{RefusesEasy, IsOutOfSteps, AllowsAllSteps, tried_by, is_hopeless, IfFound, IsHardProgram, RefusesQuery, RefusesAttempt, AllowsAttempt, HasRoomFor, step_bound};
     ghost use Rattle.fancy_search.specs.Programs.{program_pattern, program_options, program_groups, program_names, program_length, program_is_easy, asked_of, query_in};
     ghost use Rattle.fancy_search.specs.Served.{IsPosition, StandsIn, KeepsCounts, CountsReturns, HeedsStackLimit, Serves, ServesEasily};
     ghost use Rattle.fancy_search.specs.Starts.{may_start, NeverHolds};
-    ghost use Rattle.fancy_search.specs.KeptTables.{KeepsTable, KeepsSteps, KeepsLines, IsKeptIn, IsKeptFor, KeepsNotes, LeavesNotes, table_kept, ahead_with, most_with, notes_to_go, TakesStepsToGo, SpendsSteps, KeepsOn, notes_ahead};
+    ghost use Rattle.fancy_search.specs.KeptTables.{KeepsTable, KeepsSteps, KeepsLines, IsKeptIn, IsKeptFor, KeepsNotes, LeavesNotes, table_kept, ahead_with, most_with, notes_to_go, TakesStepsToGo, SpendsSteps, KeepsOn, notes_ahead, is_steps};
     ghost use Rattle.fancy_search.specs.Options.{search_options};
 
     /// Reads a pattern under these options, and compiles it.
@@ -181,7 +206,8 @@ impl Program {
         if options.forbids(easy, code.len()) {
             return Err(Error::CompileError(CompileError::PatternTooComplex));
         }
-        let plain = is_worth_following(&code);
+        let plain = is_plain(&code);
+        let worth_following = is_worth_following(&code);
         let shortest = shortest_followed(&code);
         let required = RequiredBytes::new(alloc, &tree, options.meaning())?;
         let text_required = required_text_of(alloc, &tree, options.meaning(), easy)?;
@@ -194,6 +220,7 @@ impl Program {
             names,
             easy,
             plain,
+            worth_following,
             shortest,
             required,
             text_required,
@@ -357,13 +384,14 @@ impl Program {
         ensures unlimited { kept.old ≡ Kept.Nothing
             → AllowsAllSteps self.now asked.now.request work.old → IsOutOfSteps result → ⊥ }
     {
-        if self.is_followed(asked, *kept, cache) && self.allows_all_steps(asked.request, work) {
-            return self.follow(asked.haystack, asked.request, kept, cache, work);
+        if self.is_followed(asked, *kept) && self.allows_all_steps(asked.request, work) {
+            cache.served = Engine::Automaton(self.code.groups);
+            return self.follow(asked.haystack, asked.request, kept, &mut cache.cells, work);
         }
         let mut table = kept.table();
         *kept = Kept::Nothing;
         let found = self.run(asked.haystack, asked.request, &mut table, cache, work)?;
-        *kept = Kept::of_table(table);
+        *kept = Kept::Runner(table);
         Ok(found)
     }
 
@@ -394,17 +422,16 @@ impl Program {
     }
 
     /// Whether the automaton serves a search: where it follows the code, the search is not anchored, and it is worth its steps.
-    fn is_followed(&self, asked: &Asked<'_>, kept: Kept, cache: &Cache) -> bool
+    fn is_followed(&self, asked: &Asked<'_>, kept: Kept) -> bool
         ensures plain { result ≡ true → ArePlain (instrs_of self.now.code) }
         ensures places { result ≡ true → KeepsPlaces asked.now.haystack.now self.now.code.meaning
             (search_options self.now.options).on_boundaries }
-        ensures free { result ≡ true → asked.now.request.anchored ≡ false }
         ensures none { result ≡ true → table_kept kept ≡ None }
     {
-        if asked.request.anchored {
+        if asked.request.anchored || !self.worth_following {
             return false;
         }
-        if !cache.is_worth_steps(asked.haystack, asked.request, kept, self.shortest) {
+        if !kept.is_worth_steps(asked.haystack, asked.request, self.shortest) {
             return false;
         }
         self.can_follow(asked.text)
@@ -425,13 +452,13 @@ impl Program {
         }
     }
 
-    /// The search for an easy pattern, by the automaton.
+    /// The search for an easy pattern, by the automaton. No group takes part in what it finds.
     fn follow(
         &self,
         haystack: &[u8],
         request: Request,
         kept: &mut Kept,
-        cache: &mut Cache,
+        cells: &mut Cells,
         work: &mut Work,
     ) -> Result<Option<Found>>
         requires inside { request.range_end ≤ length haystack.now }
@@ -439,27 +466,29 @@ impl Program {
         requires plain { ArePlain (instrs_of self.now.code) }
         requires places { KeepsPlaces haystack.now self.now.code.meaning
             (search_options self.now.options).on_boundaries }
-        requires free { request.anchored ≡ false }
         requires room { HasRoomFor self.now request work.old }
         requires allowed { AllowsAllSteps self.now request work.old }
-        requires kept { kept.old ≡ Kept.Steps → KeepsSteps self.now cache.old }
-        ensures served { (on : Bool) → ServesEasily self.now
-            (asked_of self.now haystack.now request on) result
-            cache.old cache.new work.old work.new }
-        ensures kept { IfFound result (λ f. IsKeptIn
-            self.now haystack.now request kept.new f.end cache.new) }
-        ensures left { kept.new ≡ Kept.Steps }
+        requires kept { is_steps kept.old ≡ true → KeepsSteps self.now cells.old }
+        ensures answer { IfOk result (λ m. (on : Bool)
+            → answer_with (replicate (program_groups self.now) None) m
+            ≡ search (asked_of self.now haystack.now request on)) }
+        ensures counts { KeepsCounts self.now result work.old work.new }
+        ensures idle { (on : Bool) → NoneTried (program_options self.now).seek
+            (asked_of self.now haystack.now request on) → steps_of work.new ≡ steps_of work.old }
+        ensures kept { KeepsSteps self.now cells.new }
+        ensures left { is_steps kept.new ≡ true }
         ensures bounded { steps_of work.new ≤ steps_of work.old + step_bound self.now request }
         ensures returns { returns_of work.new ≡ returns_of work.old }
+        ensures units { units_of work.new ≡ units_of work.old }
         ensures refused { IfErr result (λ e. e ≡ Error.Memory) }
     {
-        cache.ready_steps(kept);
-        cache.served = Engine::Automaton(self.code.groups);
+        let first = request.effective_start();
+        let read = kept.ready(cells, first);
+        *kept = Kept::Steps(read);
         let options = self.options.for_search();
-        let cells = &mut cache.cells;
         match automaton::find(&self.code, haystack, request, options, cells, work) {
             Ok(found) => {
-                cache.note_reached(found, request.effective_start());
+                *kept = Kept::Steps(read.after(end_of(found, first), cells.reached()));
                 Ok(found)
             }
             Err(_) => Err(Error::Memory),
@@ -612,14 +641,104 @@ impl Program {
         ensures refused { IfErr result (RefusesEasy self.now) }
         ensures apart { cache.new.machine ≡ cache.old.machine }
     {
-        let from_position = Request {
-            start: position,
-            anchored: true,
-            ..asked.request
+        let from_position = anchored_at(asked.request, position);
+        let mut table = notes.kept.table();
+        cache.runner.swap_notes(&mut notes.notes);
+        let found = self.run(asked.haystack, from_position, &mut table, cache, work);
+        cache.runner.swap_notes(&mut notes.notes);
+        notes.kept = Kept::Runner(table);
+        found
+    }
+
+    /// The match that an attempt at one position finds, as [`Program::attempt_at`], where the automaton may serve. It is for attempts
+    /// each of which starts where a match of some program ended: all of them together take time in proportion to the haystack, but the
+    /// steps of those that find nothing are not bounded by those of one search.
+    ///
+    /// It is refused as [`Program::attempt_at`] is.
+    pub fn attempt_in_list(
+        &self,
+        asked: &Asked<'_>,
+        position: usize,
+        notes: &mut AttemptNotes,
+        cache: &mut AttemptCache,
+        work: &mut Work,
+    ) -> Result<Option<Found>>
+        requires tries { IsPosition asked.now.request position }
+        requires room { HasRoomFor self.now
+            (record asked.now.request { start = position }) work.old }
+        requires known { AreKnown cache.old.known asked.now.haystack.now }
+        requires notes { KeepsNotes self.now
+            asked.now.haystack.now asked.now.request position notes.old }
+        ensures known { AreKnown cache.new.known asked.now.haystack.now }
+        ensures counted { cache.new.work ≡ cache.old.work }
+        ensures notes { LeavesNotes self.now asked.now position result notes.new }
+        ensures answer { IfOk result
+            (λ m. IsAttemptIn m cache.new.engines (query_in self.now asked.now) position) }
+        ensures counts { KeepsCounts self.now result work.old work.new }
+        ensures units { units_of work.old ≤ units_of work.new }
+        ensures refused { IfErr result
+            (RefusesAttempt self.now (query_in self.now asked.now) position) }
+        ensures allowed { IfOk result
+            (λ _. AllowsAttempt self.now (query_in self.now asked.now) position) }
+    {
+        let from_position = anchored_at(asked.request, position);
+        if self.is_followed_at(asked, from_position, notes.kept)
+            && self.allows_all_steps(from_position, work)
+        {
+            return self.follow_at(asked, position, notes, &mut cache.engines, work);
+        }
+        self.attempt_at(asked, position, notes, cache, work)
+    }
+
+    /// Whether the automaton serves an attempt of a list: where it follows the code, and it is worth its steps. That is so from the
+    /// first one on or never, and no longer once it was not.
+    fn is_followed_at(&self, asked: &Asked<'_>, from_position: Request, kept: Kept) -> bool
+        ensures easy { result ≡ true → program_is_easy self.now ≡ true }
+        ensures plain { result ≡ true → ArePlain (instrs_of self.now.code) }
+        ensures places { result ≡ true → KeepsPlaces asked.now.haystack.now self.now.code.meaning
+            (search_options self.now.options).on_boundaries }
+    {
+        if !self.easy || !self.can_follow(asked.text) {
+            return false;
+        }
+        kept.is_worth_steps(asked.haystack, from_position, self.shortest)
+    }
+
+    /// The attempt at one position for an easy pattern, by the automaton, which goes on with the notes.
+    fn follow_at(
+        &self,
+        asked: &Asked<'_>,
+        position: usize,
+        notes: &mut AttemptNotes,
+        cache: &mut Cache,
+        work: &mut Work,
+    ) -> Result<Option<Found>>
+        requires tries { IsPosition asked.now.request position }
+        requires easy { program_is_easy self.now ≡ true }
+        requires plain { ArePlain (instrs_of self.now.code) }
+        requires places { KeepsPlaces asked.now.haystack.now self.now.code.meaning
+            (search_options self.now.options).on_boundaries }
+        requires room { HasRoomFor self.now
+            (record asked.now.request { start = position }) work.old }
+        requires allowed { AllowsAllSteps self.now
+            (record asked.now.request { start = position; anchored = true }) work.old }
+        requires notes { KeepsNotes self.now
+            asked.now.haystack.now asked.now.request position notes.old }
+        ensures notes { LeavesNotes self.now asked.now position result notes.new }
+        ensures answer { IfOk result
+            (λ m. IsAttemptIn m cache.new (query_in self.now asked.now) position) }
+        ensures counts { KeepsCounts self.now result work.old work.new }
+        ensures units { units_of work.new ≡ units_of work.old }
+        ensures refused { IfErr result (RefusesEasy self.now) }
+    {
+        let from_position = anchored_at(asked.request, position);
+        let Ok(mut cells) = notes.take_cells(*self.text.allocator()) else {
+            return Err(Error::Memory);
         };
-        cache.runner.swap_notes(&mut notes.notes);
-        let found = self.run(asked.haystack, from_position, &mut notes.kept, cache, work);
-        cache.runner.swap_notes(&mut notes.notes);
+        cache.served = Engine::Automaton(self.code.groups);
+        let kept = &mut notes.kept;
+        let found = self.follow(asked.haystack, from_position, kept, &mut cells, work);
+        notes.cells = Some(cells);
         found
     }
 

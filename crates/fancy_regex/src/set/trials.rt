@@ -8,20 +8,22 @@ ghost use Rattle.std.specs.Prelude.{◌≡◌, ◌≤◌, ◌<◌, ◌+◌, ℕ,
 ghost use Rattle.fancy_bytes.specs.Lacks.{AreKnown};
 ghost use Rattle.fancy_core.specs.Captures.{spans_if, searched_in, found_by};
 ghost use Rattle.fancy_core.specs.Limited.{RefusesAt, AllowsAt};
-ghost use Rattle.fancy_core.specs.Regexes.{easy_in, options_in, query, step_limit_in};
+ghost use Rattle.fancy_core.specs.Regexes.{easy_in, options_in, program_in, step_limit_in};
 ghost use Rattle.fancy_core.specs.Searches.{CanSearchInput, asked_by, groups_of_attempt};
 ghost use Rattle.fancy_input.specs.Inputs.{haystack_in, request_in};
 ghost use Rattle.fancy_input.specs.Requests.{effective_start};
 ghost use Rattle.fancy_search.specs.Cached.{IsAttemptIn};
 ghost use Rattle.fancy_search.specs.KeptTables.{kept_from};
+ghost use Rattle.fancy_search.specs.Programs.{query_in};
 ghost use Rattle.fancy_search.specs.SearchCounts.{IsOutOfSteps};
 
 use fancy_code::found::Found;
-use fancy_core::attempt::{attempt_at, find_at};
+use fancy_core::attempt::{attempt_at, find_in_list};
 use fancy_core::captures::Captures;
 use fancy_core::regex::Regex;
-use fancy_input::input::{Input, Request};
+use fancy_input::input::Input;
 use fancy_input::regex_input::RegexInput;
+use fancy_search::asked::Asked;
 use fancy_search::cache::{AttemptCache, AttemptNotes};
 use fancy_tree::error::{Error, Result};
 use std::alloc::Global;
@@ -124,39 +126,37 @@ impl Trials {
         attempt_at(member, input, position, notes, &mut self.cache)
     }
 
-    /// The match that the attempt of the member with this index finds at a position, as [`find_at`].
+    /// The match that the attempt of the member with this index finds at a position, as [`find_in_list`].
     pub(crate) fn find(
         &mut self,
         index: usize,
         member: &Regex,
-        haystack: &[u8],
-        request: Request,
+        asked: &Asked<'_>,
         position: usize,
     ) -> Result<Option<Found>>
-        requires inside { request.range_end ≤ length haystack.now }
-        requires starts { effective_start request ≤ position }
-        requires ends { position ≤ request.range_end }
-        requires known { AreKnown self.old.cache.known haystack.now }
-        requires notes { NotedAt index member.now haystack.now request position self.old }
-        ensures known { AreKnown self.new.cache.known haystack.now }
-        ensures notes { IfOk result
-            (λ m. NotedAt index member.now haystack.now request (kept_from m position) self.new) }
+        requires starts { effective_start asked.now.request ≤ position }
+        requires ends { position ≤ asked.now.request.range_end }
+        requires known { AreKnown self.old.cache.known asked.now.haystack.now }
+        requires notes { NotedAt index member.now
+            asked.now.haystack.now asked.now.request position self.old }
+        ensures known { AreKnown self.new.cache.known asked.now.haystack.now }
+        ensures notes { IfOk result (λ m. NotedAt index member.now
+            asked.now.haystack.now asked.now.request (kept_from m position) self.new) }
         ensures others { OthersStayBut index self.old self.new }
         ensures limit { IsWithin (step_limit_in member.now) self.old.cache.work
             → IsWithin (step_limit_in member.now) self.new.cache.work }
         ensures limited { IsOutOfSteps result
             → IsSpent (step_limit_in member.now) self.new.cache.work }
         ensures grows { KeepsWork self.old self.new }
-        ensures found { IfOk result
-            (λ m. IsAttemptIn m self.new.cache.engines (query member.now haystack.now request)
-            position) }
+        ensures found { IfOk result (λ m. IsAttemptIn m self.new.cache.engines
+            (query_in (program_in member.now) asked.now) position) }
         ensures refused { IfErr result (λ e.
-            RefusesAt member.now (query member.now haystack.now request) position e) }
+            RefusesAt member.now (query_in (program_in member.now) asked.now) position e) }
         ensures allowed { IfOk result (λ _.
-            AllowsAt member.now (query member.now haystack.now request) position) }
+            AllowsAt member.now (query_in (program_in member.now) asked.now) position) }
     {
         self.reach(index)?;
         let notes = &mut self.notes[index];
-        find_at(member, haystack, request, position, notes, &mut self.cache)
+        find_in_list(member, asked, position, notes, &mut self.cache)
     }
 }

@@ -19,6 +19,7 @@ use fancy_code::found::Found;
 use fancy_core::attempt::captures_found;
 use fancy_input::input::{Input, Request};
 use fancy_input::regex_input::RegexInput;
+use fancy_search::asked::Asked;
 use fancy_tree::error::{Error, Result, RuntimeError};
 
 impl RegexSet {
@@ -62,12 +63,18 @@ impl RegexSet {
         let haystack = input.haystack();
         let bytes = haystack.as_bytes();
         let range_end = request.range_end;
+        let asked = Asked {
+            haystack: bytes,
+            text: haystack.is_text(),
+            request: here,
+            continues: true,
+        };
         let mut longest = None;
         let mut end = place;
         let mut from = 0;
         'members: while let Some(index) = self.next_starter(bytes, range_end, place, from) {
             let member = &self.members[index];
-            let found = trials.find(index, member, bytes, here, place)?;
+            let found = trials.find(index, member, &asked, place)?;
             if let Some(found) = found_past(found, place, end) {
                 let captures = captures_found(member, haystack, found, &trials.cache.engines)?;
                 longest = Some(Token {

@@ -1,5 +1,6 @@
 use Rattle.std.proofs.Common.{◌∙◌, sym, ◌+◌, arith, true≢false}
 use Rattle.fancy_search.specs.Cached.{cached_groups}
+use Rattle.fancy_search.specs.KeptTables.{table_kept}
 use Rattle.fancy_search.specs.Programs.{query_in}
 use Rattle.fancy_search.proofs.ResultLemmas.{if_ok, if_err}
 use Rattle.fancy_search.proofs.SearchedLemmas.{attempt_stands}
@@ -29,7 +30,7 @@ returns-then-not-is_tried-clause-bounded c easy = omega arith
 
 pub returns-then-not-is_tried-clause-spent : goal.returns-then-not-is_tried-clause-spent
 returns-then-not-is_tried-clause-spent c easy =
-    let fewer = fewer_ahead c.args.notes.now.kept c.args.self.now.code c.args.asked.now.request c.args.position (c.args.position + 1) c.args.notes.now.notes.table (omega arith) in
+    let fewer = fewer_ahead (table_kept c.args.notes.now.kept) c.args.self.now.code c.args.asked.now.request c.args.position (c.args.position + 1) c.args.notes.now.notes.table (omega arith) in
     omega (arith, fewer)
 
 pub returns-clause-bounded : goal.returns-clause-bounded

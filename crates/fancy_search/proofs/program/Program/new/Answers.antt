@@ -1,6 +1,7 @@
 use Rattle.std.proofs.Common.{rules, refl, sym, ◌∙◌, ◌+◌, ap, subst, inl, inr, arith}
 use Rattle.fancy_syntax.specs.Dialect.{DialectOptions}
 use Rattle.fancy_tree.specs.GroupNames.{names_of}
+use Rattle.fancy_automaton.proofs.PlainLemmas.{plain_is}
 use Rattle.fancy_search.specs.Compiled.{IsSpelled}
 use Rattle.fancy_search.specs.Options.{is_easy_under}
 use Rattle.fancy_search.proofs.ReadingLemmas.{spelled_in, read_as}
@@ -52,7 +53,7 @@ invariant_of-result c = record {
   meant = c.in_ok-code.ensures.meaning ∙ c.meaning.ensures;
   short = c.in_ok-code.ensures.short;
   decided = c.is_easy-easy.ensures;
-  followed = c.is_worth_following-plain.ensures;
+  followed = λ e at. plain_is _ (c.is_plain-plain.ensures.0 e at);
   light = c.in_ok-code.ensures.easy;
   limited = search rules;
   starts = kept_accepted (c.in_ok-tree.ensures.accepted.0);

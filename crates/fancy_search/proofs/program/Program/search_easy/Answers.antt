@@ -1,10 +1,13 @@
 use Rattle.std.proofs.Common.{refl, arith}
 use Rattle.std.proofs.lemmas.Result.{err_from_is_err_and}
 use Rattle.fancy_input.specs.Requests.{effective_start}
+use Rattle.fancy_search.specs.declared.cache.Engine.TheVariants.{Automaton}
 use Rattle.fancy_search.specs.KeptTables.{KeepsTable, table_kept}
-use Rattle.fancy_search.proofs.KeptTablesLemmas.{if_some_at, found_table, found_spent, found_goes_on}
+use Rattle.fancy_search.proofs.KeptTablesLemmas.{if_some_at, found_table, found_steps, found_spent, found_goes_on}
 use Rattle.fancy_runner.proofs.KeptTableLemmas.{again_paid}
 use Rattle.fancy_input.specs.Work.{steps_of}
+use Rattle.fancy_search.specs.SearchCounts.{RefusesEasy}
+use Rattle.fancy_search.proofs.ResultLemmas.{if_ok, if_err}
 use Rattle.fancy_search.proofs.program.Program.search_easy.Goals as goal
 
 pub run-requires-clause-kept : goal.run-requires-clause-kept
@@ -17,7 +20,13 @@ pub follow-requires-clause-places : goal.follow-requires-clause-places
 follow-requires-clause-places c = c.if-is_followed.ensures.places refl
 
 pub returns-then-allows_all_steps-clause-served : goal.returns-then-allows_all_steps-clause-served
-returns-then-allows_all_steps-clause-served c = c.follow.ensures.served c.args.asked.now.continues
+returns-then-allows_all_steps-clause-served c = record {
+  answer = if_ok _ _ (λ m is. is c.args.asked.now.continues) c.follow.result c.follow.ensures.answer;
+  counts = c.follow.ensures.counts;
+  idle = c.follow.ensures.idle c.args.asked.now.continues;
+  refused = if_err _ (RefusesEasy c.args.self.now) (λ e memory. rw memory tt) c.follow.result c.follow.ensures.refused;
+  apart = refl;
+}
 
 pub returns-clause-served : goal.returns-clause-served
 returns-clause-served c = c.in_ok-found.ensures.served c.args.asked.now.continues
@@ -28,7 +37,7 @@ returns-in_err-found-clause-served c =
     rw (q.1, q.2) (c.in_err-found.ensures.served c.args.asked.now.continues)
 
 pub returns-clause-kept : goal.returns-clause-kept
-returns-clause-kept c = rw c.of_table.ensures (found_table c.args.self.now c.args.asked.now.haystack.now c.run.new.cache c.args.asked.now.request c.run.new.kept c.in_ok-found.found c.in_ok-found.ensures.kept)
+returns-clause-kept c = (found_table c.args.self.now c.args.asked.now.haystack.now c.run.new.cache c.args.asked.now.request c.run.new.kept c.in_ok-found.found c.in_ok-found.ensures.kept)
 
 pub returns-clause-bounded : goal.returns-clause-bounded
 returns-clause-bounded c =
@@ -42,12 +51,12 @@ returns-clause-fresh c none =
 
 pub returns-clause-spent : goal.returns-clause-spent
 returns-clause-spent c =
-    rw c.of_table.ensures (found_spent c.args.self.now c.args.asked.now.request c.args.kept.now c.run.new.kept c.in_ok-found.found (rw c.table-table.ensures at c.in_ok-found.ensures.left)
+    (found_spent c.args.self.now c.args.asked.now.request c.args.kept.now c.run.new.kept c.in_ok-found.found (rw c.table-table.ensures at c.in_ok-found.ensures.left)
     c.run.new.cache _ (steps_of c.run.new.work) (rw c.table-table.ensures at c.in_ok-found.ensures.spent))
 
 pub returns-clause-goes_on : goal.returns-clause-goes_on
 returns-clause-goes_on c =
-    rw c.of_table.ensures (found_goes_on c.args.self.now c.args.asked.now.request c.args.kept.now c.run.new.kept c.in_ok-found.found (rw c.table-table.ensures at c.in_ok-found.ensures.left))
+    (found_goes_on c.args.self.now c.args.asked.now.request c.args.kept.now c.run.new.kept c.in_ok-found.found (rw c.table-table.ensures at c.in_ok-found.ensures.left))
 
 pub returns-in_err-found-clause-bounded : goal.returns-in_err-found-clause-bounded
 returns-in_err-found-clause-bounded c =
@@ -58,3 +67,7 @@ pub returns-in_err-found-clause-fresh : goal.returns-in_err-found-clause-fresh
 returns-in_err-found-clause-fresh c none =
     let bounded = rw (c.table-table.ensures, none) at c.run.ensures.bounded in
     omega (arith, bounded)
+
+pub returns-then-allows_all_steps-clause-kept : goal.returns-then-allows_all_steps-clause-kept
+returns-then-allows_all_steps-clause-kept c =
+    if_ok _ _ (λ m _. found_steps c.args.self.now c.args.asked.now.haystack.now (record c.args.cache.now { served = Automaton c.args.self.now.code.groups; cells = c.follow.new.cells }) c.args.asked.now.request c.follow.new.kept m c.follow.ensures.left c.follow.ensures.kept) c.follow.result c.follow.ensures.answer

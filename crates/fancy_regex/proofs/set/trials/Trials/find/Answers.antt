@@ -9,30 +9,30 @@ use Rattle.fancy_regex.proofs.TrialLemmas.{noted_still, noted_now, stay_but, get
 use Rattle.fancy_search.specs.KeptTables.{kept_from}
 use Rattle.fancy_regex.proofs.set.trials.Trials.find.Goals as goal
 
-pub find_at-requires-clause-notes : goal.find_at-requires-clause-notes
-find_at-requires-clause-notes c =
-    let q = asked_alone c.args.member.now c.args.haystack.now c.args.request in
+pub find_in_list-requires-clause-notes : goal.find_in_list-requires-clause-notes
+find_in_list-requires-clause-notes c =
+    let q = asked_alone c.args.member.now c.args.asked.now.haystack.now c.args.asked.now.request in
     noted_still q c.args.member.now c.args.position c.args.index c.args.self.now c.reach.new.self c.reach.ensures.others c.requires.notes c.index_mut-notes.result.now
     (slice_get_read c.reach.new.self.notes.items _ c.args.index c.index_mut-notes.result.now refl (omega (arith, c.in_ok-reach.ensures.reached, c.reach.new.self.notes.ok.0)) c.index_mut-notes.ensures.value)
 
 pub returns-clause-notes : goal.returns-clause-notes
 returns-clause-notes c =
-    if_ok _ _ (λ m. noted_now c.args.member.now c.args.haystack.now c.args.request (kept_from m c.args.position) c.args.index c.reach.new.self.notes.items c.find_at.new.notes (omega (arith, c.in_ok-reach.ensures.reached, c.reach.new.self.notes.ok.0))) c.find_at.result c.find_at.ensures.notes
+    if_ok _ _ (λ m. noted_now c.args.member.now c.args.asked.now.haystack.now c.args.asked.now.request (kept_from m c.args.position) c.args.index c.reach.new.self.notes.items c.find_in_list.new.notes (omega (arith, c.in_ok-reach.ensures.reached, c.reach.new.self.notes.ok.0))) c.find_in_list.result c.find_in_list.ensures.notes
 
 pub returns-clause-others : goal.returns-clause-others
-returns-clause-others c = stay_but c.args.index c.args.self.now c.reach.new.self (set c.reach.new.self.notes.items c.args.index c.find_at.new.notes) c.reach.ensures.others (λ k apart. get_set_other c.reach.new.self.notes.items c.args.index k c.find_at.new.notes apart)
+returns-clause-others c = stay_but c.args.index c.args.self.now c.reach.new.self (set c.reach.new.self.notes.items c.args.index c.find_in_list.new.notes) c.reach.ensures.others (λ k apart. get_set_other c.reach.new.self.notes.items c.args.index k c.find_in_list.new.notes apart)
 
 pub returns-in_err-reach-clause-others : goal.returns-in_err-reach-clause-others
 returns-in_err-reach-clause-others c k apart = c.reach.ensures.others k
 
 pub returns-clause-limit : goal.returns-clause-limit
-returns-clause-limit c within = c.find_at.ensures.limit (subst (λ (k : AttemptCache). IsWithin (step_limit_in c.args.member.now) k.work) (sym c.reach.ensures.cache) within)
+returns-clause-limit c within = c.find_in_list.ensures.limit (subst (λ (k : AttemptCache). IsWithin (step_limit_in c.args.member.now) k.work) (sym c.reach.ensures.cache) within)
 
 pub returns-in_err-reach-clause-limit : goal.returns-in_err-reach-clause-limit
 returns-in_err-reach-clause-limit c within = subst (λ (k : AttemptCache). IsWithin (step_limit_in c.args.member.now) k.work) (sym c.reach.ensures.cache) within
 
 pub returns-clause-grows : goal.returns-clause-grows
-returns-clause-grows c = subst (λ (k : AttemptCache). work_of k.work ≤ work_of c.find_at.new.cache.work) c.reach.ensures.cache c.find_at.ensures.grows
+returns-clause-grows c = subst (λ (k : AttemptCache). work_of k.work ≤ work_of c.find_in_list.new.cache.work) c.reach.ensures.cache c.find_in_list.ensures.grows
 
 pub returns-in_err-reach-clause-grows : goal.returns-in_err-reach-clause-grows
 returns-in_err-reach-clause-grows c = omega (arith, ap (λ k. work_of k.work) c.reach.ensures.cache)

@@ -1,0 +1,45 @@
+use Rattle.std.proofs.Common.{◌≡◌, ◌∙◌, ℕ, Option, None, Some, replicate, false}
+use Rattle.std.specs.Box.{with_value}
+use Rattle.fancy_search.specs.declared.cache.AttemptNotes.{AttemptNotes}
+use Rattle.fancy_code.specs.declared.found.Found.{Found}
+use Rattle.fancy_code.specs.Queries.{answer_with}
+use Rattle.fancy_code.specs.Search.{attempt}
+use Rattle.fancy_search.specs.KeptTables.{KeepsNotes, kept_from}
+use Rattle.fancy_search.specs.Programs.{query_in}
+use Rattle.fancy_search.specs.SearchCounts.{RefusesEasy}
+use Rattle.fancy_search.proofs.KeptTablesLemmas.{noted_steps, steps_taken, noted_still}
+use Rattle.fancy_search.proofs.ResultLemmas.{if_ok, if_err}
+use Rattle.fancy_search.proofs.SearchedLemmas.{attempted}
+use Rattle.fancy_search.proofs.program.Program.follow_at.Goals as goal
+
+pub follow-found-requires-clause-inside : goal.follow-found-requires-clause-inside
+follow-found-requires-clause-inside c = rw c.anchored_at-from_position.ensures c.args.asked.now.inside
+
+pub follow-found-requires-clause-room : goal.follow-found-requires-clause-room
+follow-found-requires-clause-room c = rw c.anchored_at-from_position.ensures c.requires.room
+
+pub follow-found-requires-clause-allowed : goal.follow-found-requires-clause-allowed
+follow-found-requires-clause-allowed c = rw c.anchored_at-from_position.ensures c.requires.allowed
+
+pub follow-found-requires-clause-kept : goal.follow-found-requires-clause-kept
+follow-found-requires-clause-kept c = λ steps.
+    rw c.deref_mut.ensures.value
+    (steps_taken c.args.self.now c.args.notes.now.cells c.in-Ok.cells c.in-Ok.ensures.given (c.requires.notes.1 (rw c.take_cells.ensures.others at steps)))
+
+pub returns-clause-answer : goal.returns-clause-answer
+returns-clause-answer c =
+    if_ok _ (λ m. answer_with (replicate c.args.self.now.code.groups None) m ≡ attempt (query_in c.args.self.now c.args.asked.now) c.args.position)
+    (λ m is. rw c.anchored_at-from_position.ensures at (is false) ∙ attempted c.args.self.now c.args.asked.now c.args.position c.requires.easy c.requires.tries)
+    c.follow-found.result c.follow-found.ensures.answer
+
+pub returns-clause-notes : goal.returns-clause-notes
+returns-clause-notes c =
+    let notes : AttemptNotes = record { kept = c.follow-found.new.kept; notes = c.take_cells.new.self.notes; cells = Some (with_value c.in-Ok.cells c.follow-found.new.cells) } in
+    let kept = λ (place : ℕ). noted_steps c.args.self.now c.args.asked.now.haystack.now c.args.asked.now.request place notes c.follow-found.ensures.left c.follow-found.ensures.kept in
+    record {
+      after = if_ok _ (λ (m : Option Found). KeepsNotes c.args.self.now c.args.asked.now.haystack.now c.args.asked.now.request (kept_from m c.args.position) notes) (λ m _. kept (kept_from m c.args.position)) c.follow-found.result c.follow-found.ensures.answer;
+      dropped = if_err _ _ (λ e _. kept c.args.position) c.follow-found.result c.follow-found.ensures.refused;
+    }
+
+pub returns-clause-refused : goal.returns-clause-refused
+returns-clause-refused c = if_err _ (RefusesEasy c.args.self.now) (λ e memory. rw memory tt) c.follow-found.result c.follow-found.ensures.refused
