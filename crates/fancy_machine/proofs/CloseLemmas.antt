@@ -26,6 +26,10 @@ pub one_limit : (group : Option ℕ) (x : Spot) → (past_one group x).limit ≡
 one_limit None x = refl
 one_limit (Some g) x = refl
 
+pub items_limit : (group : Option ℕ) (n : ℕ) (x : Spot) → (past_items group n x).limit ≡ x.limit
+items_limit group zero x = refl
+items_limit group (suc n) x = items_limit group n (past_one group x) ∙ one_limit group x
+
 pub one_place : (group : Option ℕ) (x : Spot) → (past_one group x).state.place ≡ x.state.place + 1
 one_place None x = refl
 one_place (Some g) x = refl

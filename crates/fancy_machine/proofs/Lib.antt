@@ -17,6 +17,7 @@ pub mod WentLemmas
 pub mod AnswerLemmas
 pub mod PassLemmas
 pub mod CloseLemmas
+pub mod AtomLemmas
 pub mod LoopLemmas
 pub mod ChoiceLemmas
 pub mod DropLemmas

@@ -14,6 +14,7 @@ use Rattle.fancy_code.specs.Thread.{size_of}
 use Rattle.fancy_code.proofs.RunMore.{run_more}
 use Rattle.fancy_prices.specs.declared.splits.ToldSplit.{ToldSplit}
 use Rattle.fancy_prices.specs.declared.splits.Splits.{Splits}
+use Rattle.fancy_prices.specs.declared.splits.ToldPart.TheVariants.{Choice}
 use Rattle.fancy_prices.specs.Splits.{AreApart, DiesPast, IsToldSplit, IsNoted, LeavesAt, ReadsByte, byte_alone}
 use Rattle.fancy_prices.specs.Prices.{Costs, MissesIn, Dies}
 use Rattle.fancy_code.specs.Code.{instrs_of}
@@ -326,11 +327,14 @@ run_inside splits h r at p l known noted same low high k lt =
     let e : r.from + (p - r.from + k) ≡ p + k = omega (arith, low) in
     subst (Stands l.items h) e (known l (subst (λ (q : ℕ). IsNoted splits q l) (sym same) noted) (p - r.from + k) (omega (arith, low, high, lt)))
 
+same_choice : (l m : ToldSplit) → Choice l ≡ Choice m → l ≡ m
+same_choice l m e = cc
+
 -- one loop at most is noted for an instruction
 same_split : (splits : Splits) (at : ℕ) (l m : ToldSplit) → IsNoted splits at l → IsNoted splits at m → l ≡ m
 same_split splits at l m a b =
     let n : a.0 ≡ b.0 = same_Some _ _ (sym a.1 ∙ b.1) in
-    same_Some _ _ (sym a.2 ∙ ap (slice_get splits.splits.items) n ∙ b.2)
+    same_choice l m (same_Some _ _ (sym a.2 ∙ ap (slice_get splits.parts.items) n ∙ b.2))
 
 -- a run that was read is known
 pub run_known : (splits : Splits) (h : List ℕ) (at p n : ℕ) (l m : ToldSplit) → IsNoted splits at l → HasItems l h p n → IsNoted splits at m → HasItems m h p (p + n - p)

@@ -7,5 +7,6 @@ pub mod Attempt
 pub mod Parts
 pub mod Asked
 pub mod Units
+pub mod Atoms
 pub mod Runs
 pub mod Front

@@ -10,6 +10,7 @@ ghost use Rattle.fancy_code.specs.Thread.{IsKnown};
 ghost use Rattle.fancy_prices.specs.Splits.{AreSplits};
 ghost use Rattle.fancy_prices.specs.Once.{splits_once};
 
+use crate::atoms::pass_atom;
 use crate::best::Best;
 use crate::runs::pass;
 use crate::seen::Seen;
@@ -23,7 +24,7 @@ use fancy_input::input::Request;
 use fancy_input::last_lines::LastLines;
 use fancy_input::refusal::SearchRefusal;
 use fancy_input::work::Work;
-use fancy_prices::splits::Splits;
+use fancy_prices::splits::{Splits, ToldPart};
 
 /// The attempts of one search: the code that they follow, the haystack, and what they accept there.
 #[derive(Drop)]
@@ -145,8 +146,8 @@ impl<'a> Attempt<'a> {
         }
     }
 
-    /// Goes on: by a choice that is told, with all items that it reads, or by one instruction. The returns that it takes are added to those of
-    /// `work`, and none is taken past the limit.
+    /// Goes on: by a choice or an atomic group that is told, with all items that it reads, or by one instruction. The returns that it
+    /// takes are added to those of `work`, and none is taken past the limit.
     fn advance(
         &self,
         trail: &mut Trail,
@@ -163,6 +164,9 @@ impl<'a> Attempt<'a> {
     {
         if let Some(split) = self.splits.at(trail.at()) {
             return pass(self, split, trail, limit, &mut seen.last_run, work);
+        }
+        if let Some(ToldPart::Atom(atom)) = self.splits.part(trail.at()) {
+            return pass_atom(self, atom, trail, limit, &mut seen.last_run, work);
         }
         self.turn(trail, best, &mut seen.last_lines, work)
     }

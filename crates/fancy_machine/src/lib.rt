@@ -2,6 +2,7 @@
 #![tactic(auto)]
 
 pub mod asked;
+mod atoms;
 mod attempt;
 mod best;
 mod choice;

@@ -46,7 +46,7 @@ pub(crate) fn may_begin(split: &ToldSplit, haystack: &[u8], place: usize) -> boo
 }
 
 /// Whether an item of a loop may stand at a place, where consumed text ends by a limit: none does where nothing is consumed any more.
-fn may_stand(split: &ToldSplit, haystack: &[u8], limit: usize, place: usize) -> bool
+pub(crate) fn may_stand(split: &ToldSplit, haystack: &[u8], limit: usize, place: usize) -> bool
     requires { split.now.is_loop ≡ true }
     ensures { result ≡ false → IsStuck split.now haystack.now limit place }
 {
@@ -160,7 +160,7 @@ impl LastRun {
 
 /// Reads the items of a loop that stand where the trail does, each of them one byte, and counts them as units: how many they are. Those
 /// of the run that was read last are not read again.
-fn read_run(
+pub(crate) fn read_run(
     attempt: &Attempt,
     split: &ToldSplit,
     trail: &Trail,
@@ -301,6 +301,10 @@ pub(crate) fn pass(
     }
     work.count_returns(read.count + 2 - left, limit, step_limit)?;
     trail.save_run(split.second, from, read.saved(left - 1))?;
+    if split.group.is_none() {
+        trail.go_to(split.second, from + (left - 1));
+        return Ok(Next::On);
+    }
     trail.read_items(split.group, left - 1, split.second)?;
     Ok(Next::On)
 }

@@ -11,7 +11,7 @@ use Rattle.fancy_code.specs.Context.{Context, State, Unit_at, moved_to, option_t
 use Rattle.fancy_code.specs.Instructions.{Instruction, Character, Member, RawByte}
 use Rattle.fancy_code.specs.Run.{Note, fetched, Go, before, onward, act, instr_at, run}
 use Rattle.fancy_code.proofs.BranchingLemmas.{each_more}
-use Rattle.fancy_prices.specs.declared.splits.ToldSplit.{ToldSplit}
+use Rattle.fancy_prices.specs.declared.splits.ToldPart.{ToldPart}
 use Rattle.fancy_prices.proofs.FlagLemmas.{neither}
 use Rattle.fancy_prices.specs.Splits.{AreItems, AreNoted, IsAlone, ReadsByte, ReadsEach, single}
 
@@ -101,25 +101,25 @@ module _ (numbers filled : List (Option ℕ)) (at count : ℕ) (long : length fi
       last zero same g = (omega (arith, same), cc)
       last (suc k) same g = absurd (none_some number g)
 
-  module _ (splits : List ToldSplit) (l : ToldSplit) (is : length splits ≡ count) (within : (q number : ℕ) → slice_index_or numbers q None ≡ Some number → number < length splits) where
-    pub within_more : (q number : ℕ) → slice_index_or numbered q None ≡ Some number → number < length (splits ++ l ∷ [])
+  module _ (parts : List ToldPart) (l : ToldPart) (is : length parts ≡ count) (within : (q number : ℕ) → slice_index_or numbers q None ≡ Some number → number < length parts) where
+    pub within_more : (q number : ℕ) → slice_index_or numbered q None ≡ Some number → number < length (parts ++ l ∷ [])
     within_more q number e =
         elim (number_at q number e) [
-          | inl old ↦ omega (arith, within q number old, length-append splits (l ∷ []))
-          | inr new ↦ omega (arith, new.1, is, length-append splits (l ∷ []))
+          | inl old ↦ omega (arith, within q number old, length-append parts (l ∷ []))
+          | inr new ↦ omega (arith, new.1, is, length-append parts (l ∷ []))
         ]
 
-    pub noted_more : (stands : ℕ → ToldSplit → Type 0) → AreNoted stands numbers splits → stands at l → AreNoted stands numbered (splits ++ l ∷ [])
+    pub noted_more : (stands : ℕ → ToldPart → Type 0) → AreNoted stands numbers parts → stands at l → AreNoted stands numbered (parts ++ l ∷ [])
     noted_more stands noted here q number other e g =
-        each_more (λ (k : ℕ) (o : ToldSplit). slice_index_or numbered q None ≡ Some k → stands q o) splits l
+        each_more (λ (k : ℕ) (o : ToldPart). slice_index_or numbered q None ≡ Some k → stands q o) parts l
         (λ k o inside e.
         elim (number_at q k e) [
           | inl old ↦ noted q k o old inside
-          | inr new ↦ absurd (omega (arith, new.1, is, slice_get_within splits k o inside))
+          | inr new ↦ absurd (omega (arith, new.1, is, slice_get_within parts k o inside))
         ])
         (λ e.
-        elim (number_at q (length splits) e) [
-          | inl old ↦ absurd (omega (arith, within q (length splits) old))
+        elim (number_at q (length parts) e) [
+          | inl old ↦ absurd (omega (arith, within q (length parts) old))
           | inr new ↦ subst (λ (k : ℕ). stands k l) (sym new.0) here
         ])
         number other g e

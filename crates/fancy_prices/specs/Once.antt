@@ -2,12 +2,16 @@
 use Rattle.std.specs.Prelude.{◌≡◌, ℕ, suc, true, false, List, [], ◌∷◌, Option, Some, None}
 use Rattle.std.proofs.Props.{props}
 use mathlib.Core.HLevel.{is_prop→PathP}
+use Rattle.fancy_tree.specs.declared.tree.Meaning.{Meaning}
 use Rattle.fancy_code.specs.declared.code.Code.{Code}
 use Rattle.fancy_code.specs.Events.{any}
+use Rattle.fancy_code.specs.Instructions.{Instruction}
 use Rattle.fancy_code.specs.Run.{Raw, Note, Stop, choice_opened, returned, fetched}
 use Rattle.fancy_prices.specs.declared.splits.Splits.{Splits}
+use Rattle.fancy_prices.specs.declared.splits.ToldPart.{ToldPart}
+use Rattle.fancy_prices.specs.declared.splits.ToldPart.TheVariants.{Choice, Atom}
 use Rattle.fancy_prices.specs.declared.prices.Prices.{Prices}
-use Rattle.fancy_prices.specs.Splits.{AreSplits}
+use Rattle.fancy_prices.specs.Splits.{AreSplits, IsTold}
 use Rattle.fancy_prices.specs.Prices.{Costs, MissesIn}
 use Rattle.fancy_prices.specs.Told.{ArePrices}
 
@@ -34,8 +38,12 @@ costs_once : (m r : ℕ) (o : Option (List Raw)) → IsProp (Costs m r o)
 costs_once m r None = hlevel props
 costs_once m r (Some w) = misses_once m r w
 
+told_once : (code : List Instruction) (meaning : Meaning) (at : ℕ) (l : ToldPart) → IsProp (IsTold code meaning at l)
+told_once code meaning at (Choice l) = hlevel (props, costs_once)
+told_once code meaning at (Atom a) = hlevel props
+
 pub splits_once : (l : Splits) (code : Code) → IsProp (AreSplits l code)
-splits_once l code = hlevel (props, costs_once)
+splits_once l code = hlevel (props, told_once)
 
 pub prices_once : (p : Prices) (code : Code) → IsProp (ArePrices p code)
-prices_once p code = hlevel (props, costs_once)
+prices_once p code = hlevel (props, costs_once, splits_once)

@@ -5,10 +5,13 @@ use Rattle.fancy_bytes.specs.Sets.{ByteFlags, member}
 use Rattle.fancy_code.specs.declared.code.Code.{Code}
 use Rattle.fancy_code.specs.Code.{instrs_of}
 use Rattle.fancy_code.specs.Context.{Context, State, Unit_at, moved_to, unit_in, with_capture}
-use Rattle.fancy_code.specs.Instructions.{Instruction, Split}
+use Rattle.fancy_code.specs.Instructions.{Instruction, Enter, Split}
 use Rattle.fancy_code.specs.Run.{Note, Stop, fetched, before, instr_at, run}
 use Rattle.fancy_prices.specs.declared.facts.Facts.{Facts}
+use Rattle.fancy_prices.specs.declared.atoms.ToldAtom.{ToldAtom}
 use Rattle.fancy_prices.specs.declared.splits.ToldSplit.{ToldSplit}
+use Rattle.fancy_prices.specs.declared.splits.ToldPart.{ToldPart}
+use Rattle.fancy_prices.specs.declared.splits.ToldPart.TheVariants.{Choice, Atom}
 use Rattle.fancy_prices.specs.declared.splits.Splits.{Splits}
 use Rattle.fancy_prices.specs.declared.price.Price.{Price}
 use Rattle.fancy_prices.specs.Prices.{Costs, Dies, IsNothing}
@@ -87,14 +90,29 @@ pub record IsToldSplit (code : List Instruction) (meaning : Meaning) (at : ℕ) 
   pub leaves : LeavesAt code meaning l.leaves l.second
   pub apart : l.apart ≡ true → AreApart l.items l.leaves
 
--- each choice that has a number stands at an instruction that it is noted for
-abbrev pub AreNoted : (ℕ → ToldSplit → Type 0) → List (Option ℕ) → List ToldSplit → Type 0
-AreNoted stands numbers splits = (at number : ℕ) (l : ToldSplit) → slice_index_or numbers at None ≡ Some number → slice_get splits number ≡ Some l → stands at l
+-- At this instruction an atomic group begins. Its body is a loop, or reads each of these items and goes on at a loop.
+pub record IsToldAtom (code : List Instruction) (meaning : Meaning) (at : ℕ) (a : ToldAtom) : Type 0 where
+  pub enters : instr_at code at ≡ Enter a.body
+  pub alone : a.leads ≡ false → a.body ≡ a.head
+  pub reads : a.leads ≡ true → ReadsEach code meaning a.items a.body a.head
 
--- the choice is noted for the instruction
+-- what is told of the instruction is so
+abbrev pub IsTold : List Instruction → Meaning → ℕ → ToldPart → Type 0
+IsTold code meaning at (Choice l) = IsToldSplit code meaning at l
+IsTold code meaning at (Atom a) = IsToldAtom code meaning at a
+
+-- each part that has a number stands at an instruction that it is noted for
+abbrev pub AreNoted : (ℕ → ToldPart → Type 0) → List (Option ℕ) → List ToldPart → Type 0
+AreNoted stands numbers parts = (at number : ℕ) (l : ToldPart) → slice_index_or numbers at None ≡ Some number → slice_get parts number ≡ Some l → stands at l
+
+-- the part is noted for the instruction
+abbrev pub IsPart : Splits → ℕ → ToldPart → Type 0
+IsPart l at o = (number : ℕ) × (slice_index_or l.numbers.items at None ≡ Some number) × (slice_get l.parts.items number ≡ Some o)
+
+-- the choice is
 abbrev pub IsNoted : Splits → ℕ → ToldSplit → Type 0
-IsNoted l at o = (number : ℕ) × (slice_index_or l.numbers.items at None ≡ Some number) × (slice_get l.splits.items number ≡ Some o)
+IsNoted l at o = IsPart l at (Choice o)
 
--- each choice that is noted is one, at the instruction that it is noted for
+-- each part that is noted is one, at the instruction that it is noted for
 abbrev pub AreSplits : Splits → Code → Type 0
-AreSplits l code = AreNoted (IsToldSplit (instrs_of code) code.meaning) l.numbers.items l.splits.items
+AreSplits l code = AreNoted (IsTold (instrs_of code) code.meaning) l.numbers.items l.parts.items

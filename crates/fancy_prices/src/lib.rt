@@ -1,6 +1,7 @@
 //! What attempts with hard code cost where they die, told by the byte that stands at a position and what stands before it.
 #![tactic(auto)]
 
+pub mod atoms;
 pub mod entries;
 mod facts;
 mod free;

@@ -1,4 +1,4 @@
-//! The choices of code, and the bytes that tell what their ways do.
+//! The choices and atomic groups of code, and the bytes that tell what their ways do.
 
 ghost use Rattle.std.specs.Prelude.{◌≡◌, ℕ, ◌<◌, ◌==◌, true, false, Some, None, IfOk, IfSome};
 ghost use Rattle.fancy_tree.specs.Sets.{has};
@@ -7,8 +7,9 @@ ghost use Rattle.fancy_code.specs.declared.code.Code.{Code};
 ghost use Rattle.fancy_code.specs.Code.{instrs_of};
 ghost use Rattle.fancy_code.specs.Instructions.{edges_in};
 ghost use Rattle.fancy_prices.specs.Prices.{Dies, IsNothing};
-ghost use Rattle.fancy_prices.specs.Splits.{AreApart, AreItems, AreSplits, BeginsAt, DiesPast, IsAlone, IsToldSplit, IsNoted, LeavesAt, ReadsEach, ReadsEachIn, StopsAt, byte_alone};
+ghost use Rattle.fancy_prices.specs.Splits.{AreApart, AreItems, AreSplits, BeginsAt, DiesPast, IsAlone, IsTold, IsToldSplit, IsNoted, IsPart, LeavesAt, ReadsEach, ReadsEachIn, StopsAt, byte_alone};
 
+use crate::atoms::{ToldAtom, atom_at};
 use crate::facts::Facts;
 use crate::free::price_of;
 use crate::price::Price;
@@ -18,7 +19,7 @@ use fancy_tree::char_set::CharSet;
 use fancy_tree::tree::Meaning;
 use std::alloc::{AllocError, Global};
 
-/// The most choices that are noted. For each it is asked of 256 bytes, at most three times, what the code does where the byte stands.
+/// The most parts that are noted. For a choice it is asked of 256 bytes, at most three times, what the code does where the byte stands.
 const MOST: usize = 128;
 
 /// How many instructions are followed one after another.
@@ -83,12 +84,21 @@ impl ToldSplit {
     }
 }
 
-/// The choices of a code, by the number of their instruction: the first 128 of which something is told.
+/// What is told of an instruction of code.
+#[derive(Drop)]
+pub enum ToldPart {
+    /// A choice stands there.
+    Choice(ToldSplit),
+    /// An atomic group begins there.
+    Atom(ToldAtom),
+}
+
+/// The choices and atomic groups of a code, by the number of their instruction: the first 128 of which something is told.
 #[derive(Drop)]
 pub struct Splits {
-    // at an instruction the number of its choice, as far as the last one's instruction
+    // at an instruction the number of its part, as far as the last one's instruction
     numbers: Vec<Option<u8>>,
-    splits: Vec<ToldSplit>,
+    parts: Vec<ToldPart>,
 }
 
 /// The set of one byte.
@@ -194,7 +204,7 @@ pub(crate) fn reader_at(code: &Code, at: usize, back: usize) -> Reader
 }
 
 /// Where an instruction goes on once it has read an item, if it reads one.
-fn past_item(code: &Code, at: usize) -> Option<usize> {
+pub(crate) fn past_item(code: &Code, at: usize) -> Option<usize> {
     if at >= code.len() {
         return None;
     }
@@ -205,7 +215,7 @@ fn past_item(code: &Code, at: usize) -> Option<usize> {
 }
 
 /// The item that the code from an instruction on reads before it goes on at `back`, by itself or in a group, if it does that.
-fn reader_of(code: &Code, at: usize, back: usize) -> Reader
+pub(crate) fn reader_of(code: &Code, at: usize, back: usize) -> Reader
     ensures alone { result.group ≡ None → ReadsEach (instrs_of code.now) code.now.meaning result.items at back }
     ensures within { (g : ℕ) → result.group ≡ Some g
         → ReadsEachIn (instrs_of code.now) code.now.meaning result.items g at back }
@@ -237,7 +247,7 @@ fn reader_of(code: &Code, at: usize, back: usize) -> Reader
 }
 
 /// Where what is round a region goes on, if a way that comes to an instruction stops there at once.
-fn stop_at(code: &Code, at: usize) -> Option<usize>
+pub(crate) fn stop_at(code: &Code, at: usize) -> Option<usize>
     ensures { IfSome result (λ next. StopsAt (instrs_of code.now) at next) }
 {
     if at >= code.len() {
@@ -352,6 +362,19 @@ fn split_at(code: &Code, at: usize) -> Option<ToldSplit>
     })
 }
 
+/// What is told of an instruction, if anything is.
+fn part_at(code: &Code, at: usize) -> Option<ToldPart>
+    ensures { IfSome result (λ l. IsTold (instrs_of code.now) code.now.meaning at l) }
+{
+    if let Some(split) = split_at(code, at) {
+        return Some(ToldPart::Choice(split));
+    }
+    match atom_at(code, at) {
+        Some(atom) => Some(ToldPart::Atom(atom)),
+        None => None,
+    }
+}
+
 impl Splits {
     /// None: nothing is told of the code.
     pub fn none(alloc: Global) -> Splits
@@ -359,30 +382,41 @@ impl Splits {
     {
         Splits {
             numbers: Vec::new(alloc),
-            splits: Vec::new(alloc),
+            parts: Vec::new(alloc),
         }
     }
 
-    /// The first 128 choices of a code of which something is told.
+    /// The first 128 choices and atomic groups of a code of which something is told.
     ///
     /// It is refused where memory runs out.
     pub fn of(alloc: Global, code: &Code) -> Result<Splits, AllocError>
         ensures { IfOk result (λ splits. AreSplits splits code.now) }
     {
         let mut numbers = Vec::new(alloc);
-        let mut splits = Vec::new(alloc);
+        let mut parts = Vec::new(alloc);
         for at in 0..code.len() {
-            if splits.len() == MOST {
+            if parts.len() == MOST {
                 break;
             }
-            let Some(found) = split_at(code, at) else {
+            let Some(found) = part_at(code, at) else {
                 continue;
             };
             numbers.resize(at, None)?;
-            numbers.push(Some(splits.len() as u8))?;
-            splits.push(found)?;
+            numbers.push(Some(parts.len() as u8))?;
+            parts.push(found)?;
         }
-        Ok(Splits { numbers, splits })
+        Ok(Splits { numbers, parts })
+    }
+
+    /// What is told of an instruction, if anything is.
+    #[inline]
+    pub fn part(&self, at: usize) -> Option<&ToldPart>
+        ensures { IfSome result (λ l. IsPart self.now at l.now) }
+    {
+        let Some(Some(number)) = self.numbers.get(at) else {
+            return None;
+        };
+        self.parts.get(*number as usize)
     }
 
     /// The choice at an instruction, if it is noted.
@@ -390,9 +424,9 @@ impl Splits {
     pub fn at(&self, at: usize) -> Option<&ToldSplit>
         ensures { IfSome result (λ l. IsNoted self.now at l.now) }
     {
-        let Some(Some(number)) = self.numbers.get(at) else {
-            return None;
-        };
-        self.splits.get(*number as usize)
+        match self.part(at) {
+            Some(ToldPart::Choice(split)) => Some(split),
+            _ => None,
+        }
     }
 }

@@ -1,10 +1,11 @@
-use Rattle.std.proofs.Common.{◌≡◌, true≢false, true, false, Bool, not, sym, ◌∙◌, ◌-◌, ◌+◌, ◌≤◌, ℕ, Err, ap, arith, refl, subst}
-use Rattle.std.specs.Prelude.{if◌then◌else◌}
+use Rattle.std.proofs.Common.{◌≡◌, Option, Some, None, true≢false, true, false, Bool, not, sym, ◌∙◌, ◌-◌, ◌+◌, ◌≤◌, ℕ, Err, ap, arith, refl, subst}
+use Rattle.std.specs.Prelude.{if◌then◌else◌, is_some}
 use Rattle.fancy_input.specs.declared.refusal.SearchRefusal.TheVariants.{Choices}
 use Rattle.fancy_machine.specs.Frames.{saved}
 use Rattle.fancy_machine.specs.Runs.{HasItems}
 use Rattle.fancy_machine.proofs.WentLemmas.{takes_none, went_refused}
 use Rattle.fancy_machine.proofs.WorkLemmas.{returns_same}
+use Rattle.fancy_machine.proofs.CloseLemmas.{alone_items}
 use Rattle.fancy_machine.proofs.LoopLemmas.{reads_on, many_choices, choices_stuck, goes_back, returns_back, is_dead, returns_dead}
 use Rattle.fancy_machine.proofs.runs.pass.Goals as goal
 
@@ -20,6 +21,10 @@ going false e = refl
 few_saved : (b : Bool) (n places : ℕ) → n ≡ (if b then 0 else places) → n ≤ places
 few_saved true n places is = omega (arith, is)
 few_saved false n places is = omega (arith, is)
+
+no_group : (o : Option ℕ) (b : Bool) → is_some o ≡ not b → b ≡ true → o ≡ None
+no_group None b is none = refl
+no_group (Some g) b is none = absurd (true≢false (is ∙ ap not none))
 
 pub overflow_add-read-2 : goal.overflow_add-read-2
 overflow_add-read-2 c = omega (arith, c.in_ok-read.ensures.run.short)
@@ -121,6 +126,24 @@ returns-in_err-read_items-clause-went c best = went_refused c.from_residual-in_e
     (λ i low high. rw c.place-from.ensures at (c.places_left-left.ensures.dies i (omega (arith, low, c.if-left-eq0.false)) high)) in
     omega (arith, all, c.if-left-eq0.false, c.places_left-left.ensures.few, c.count_returns-2.ensures.adds.most, returns_same c.args.work.now c.count_step_within.new.self c.read_ahead.new.work c.count_step_within.ensures c.read_ahead.ensures.units.adds))
     (λ is. absurd (cc)) (λ is. absurd (cc)) (c.read_items.ensures.most ∙ c.save_run-2.ensures.most)
+
+pub returns-then-is_none-clause-went : goal.returns-then-is_none-clause-went
+returns-then-is_none-clause-went c best = record {
+  advanced = λ deep goal total choices r s.
+      goes_back c.args.attempt.now c.args.split.now c.args.trail.now c.in_ok-read.read (c.args.attempt.now.told _ _ _ c.requires.noted.1 c.requires.noted.2) c.in_ok-read.ensures.run best deep goal total choices r s (stuck _ c.if-not-read.false) (c.places_left-left.result - 1) (omega (arith, c.places_left-left.ensures.few)) (λ e. omega (arith, c.places_left-left.ensures.closes e))
+      (λ i low high. rw c.place-from.ensures at (c.places_left-left.ensures.dies i (omega (arith, low, c.if-left-eq0.false)) high))
+      c.go_to-then-is_none.new.self
+      (rw (c.save_run-2.ensures.now, c.place-from.ensures) at c.go_to-then-is_none.ensures.now ∙ sym (alone_items c.args.split.now.group (c.places_left-left.result - 1) c.args.split.now.second c.args.trail.now.now (λ _. no_group c.args.split.now.group c.is_none.result c.is_none.ensures c.if-is_none.true)))
+      (c.go_to-then-is_none.ensures.frames ∙ rw (c.place-from.ensures, c.saved.ensures) at c.in_ok-save_run-2.ensures.laid) _
+      (omega (arith, c.if-left-eq0.false, c.places_left-left.ensures.few, c.in_ok-count_returns-2.ensures.counted, returns_same c.args.work.now c.count_step_within.new.self c.read_ahead.new.work c.count_step_within.ensures c.read_ahead.ensures.units.adds));
+  bounded = λ deep goal total choices s.
+      let all = returns_back c.args.attempt.now c.args.split.now c.args.trail.now c.in_ok-read.read (c.args.attempt.now.told _ _ _ c.requires.noted.1 c.requires.noted.2) c.in_ok-read.ensures.run best deep goal total choices _ s (stuck _ c.if-not-read.false) (c.places_left-left.result - 1) (omega (arith, c.places_left-left.ensures.few)) (λ e. omega (arith, c.places_left-left.ensures.closes e))
+      (λ i low high. rw c.place-from.ensures at (c.places_left-left.ensures.dies i (omega (arith, low, c.if-left-eq0.false)) high)) in
+      omega (arith, all, c.if-left-eq0.false, c.places_left-left.ensures.few, c.count_returns-2.ensures.adds.most, returns_same c.args.work.now c.count_step_within.new.self c.read_ahead.new.work c.count_step_within.ensures c.read_ahead.ensures.units.adds);
+  refused = λ e. absurd (cc);
+  crowded = λ e. absurd (cc);
+  most = c.go_to-then-is_none.ensures.most ∙ c.save_run-2.ensures.most;
+}
 
 pub returns-clause-went : goal.returns-clause-went
 returns-clause-went c best = record {

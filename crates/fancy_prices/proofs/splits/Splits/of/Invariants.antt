@@ -1,13 +1,13 @@
 use Rattle.std.proofs.Common.{◌≡◌, ◌<◌, ◌≤◌, ℕ, Some, None, length}
 use Rattle.std.specs.Prelude.{slice_index_or}
 use Rattle.fancy_code.specs.Code.{instrs_of}
-use Rattle.fancy_prices.specs.Splits.{AreNoted, IsToldSplit}
+use Rattle.fancy_prices.specs.Splits.{AreNoted, IsTold}
 use Rattle.fancy_prices.proofs.splits.Splits.of.Given as goal
 
 abbrev pub invariant-loop-at : goal.invariant-loop-at
 invariant-loop-at l = record {
   short : length l.numbers.items ≤ l.at;
-  few : length l.splits.items ≤ 128;
-  within : (q number : ℕ) → slice_index_or l.numbers.items q None ≡ Some number → number < length l.splits.items;
-  noted : AreNoted (IsToldSplit (instrs_of l.code) l.code.meaning) l.numbers.items l.splits.items;
+  few : length l.parts.items ≤ 128;
+  within : (q number : ℕ) → slice_index_or l.numbers.items q None ≡ Some number → number < length l.parts.items;
+  noted : AreNoted (IsTold (instrs_of l.code) l.code.meaning) l.numbers.items l.parts.items;
 }
