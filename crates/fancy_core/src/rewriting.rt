@@ -1,6 +1,6 @@
 //! A text while its matches are replaced, one after another.
 
-ghost use Rattle.std.specs.Prelude.{◌≡◌, ◌≤◌, ◌↔◌, ◌⊎◌, ◌++◌, ◌∷◌, [], true, false, length, slice_range, string_bytes, IsTrue, IfOk, IfErr, IfSome, OnOk, MatchBool, MatchOption, List, ℕ};
+ghost use Rattle.std.specs.Prelude.{◌≡◌, ◌≤◌, ◌↔◌, ◌⊎◌, ◌++◌, ◌∷◌, [], true, false, length, string_bytes, IsTrue, IfOk, IfErr, IfSome, OnOk, MatchBool, MatchOption, List, ℕ};
 ghost use Rattle.std.specs.Borrow.{Bor};
 ghost use Rattle.std.specs.Cow.{cow_str_bytes, IsBorrowedStr};
 ghost use Rattle.fancy_input.specs.Places.{is_boundary};
@@ -19,7 +19,7 @@ use crate::captures::Captures;
 use crate::limits::{is_reached, limit_of, one_fewer};
 use crate::regex::Regex;
 use crate::replacer::Replacer;
-use fancy_input::input::Input;
+use crate::split::part;
 use fancy_input::regex_input::RegexInput;
 use fancy_search::cache::Cache;
 use fancy_search::groups::groups_found;
@@ -111,8 +111,8 @@ impl<'r, 't> Rewriting<'r, 't> {
         {
             None => Ok(None),
             Some(Ok(item)) => {
-                let part = self.part(item.found.start);
-                self.out.push_str(part)?;
+                let before = part(self.searcher.haystack(), self.last, item.found.start);
+                self.out.push_str(before)?;
                 self.last = item.found.end;
                 self.left = one_fewer(self.left);
                 self.found = true;
@@ -160,7 +160,7 @@ impl<'r, 't> Rewriting<'r, 't> {
         if !self.found {
             return Ok(CowStr::Borrowed(text));
         }
-        let rest = self.part(text.len());
+        let rest = part(text, self.last, text.len());
         let Rewriting {
             regex: _,
             searcher: _,
@@ -188,15 +188,5 @@ impl<'r, 't> Rewriting<'r, 't> {
             &self.cache,
         )?;
         Ok(Captures::new(regex, self.searcher.haystack(), slots))
-    }
-
-    /// The part of the text from the end of the last match to `end`, in bytes.
-    fn part(&self, end: usize) -> &'t str
-        requires ordered { self.now.last ≤ end }
-        requires inside { end ≤ length self.now.searcher.haystack.now }
-        requires cleanly { IsTrue (is_boundary self.now.searcher.haystack.now end) }
-        ensures { result.now ≡ slice_range self.now.searcher.haystack.now self.now.last end }
-    {
-        self.searcher.haystack().make_match(self.last, end).as_str()
     }
 }

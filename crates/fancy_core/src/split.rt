@@ -41,6 +41,17 @@ pub struct Split<'r, 't> {
     ghost before: { searcher.ended ≡ false → last ≤ searcher.request.start },
 }
 
+/// The part of a text between two places, in bytes.
+pub(crate) fn part<'t>(text: &'t str, start: usize, end: usize) -> &'t str
+    requires ordered { start ≤ end }
+    requires inside { end ≤ length text.now }
+    requires starts { IsTrue (is_boundary text.now start) }
+    requires ends { IsTrue (is_boundary text.now end) }
+    ensures { result.now ≡ slice_range text.now start end }
+{
+    text.make_match(start, end).as_str()
+}
+
 impl Regex {
     ghost use Rattle.fancy_core.specs.Splits.{at_start, progress, searches, split_regex, pieces_bound};
 
@@ -71,16 +82,6 @@ impl<'r, 't> Split<'r, 't> {
     ghost use Rattle.fancy_core.specs.Pieces.{rest_of};
     ghost use Rattle.fancy_core.specs.Splits.{progress, searches, split_regex};
 
-    /// The part of the text from the end of the last match to `end`, in bytes.
-    fn part(&self, end: usize) -> &'t str
-        requires ordered { self.now.last ≤ end }
-        requires inside { end ≤ length self.now.searcher.haystack.now }
-        requires cleanly { IsTrue (is_boundary self.now.searcher.haystack.now end) }
-        ensures { result.now ≡ slice_range self.now.searcher.haystack.now self.now.last end }
-    {
-        self.searcher.haystack().make_match(self.last, end).as_str()
-    }
-
     /// Gives the rest from the end of the last match on, which is the last piece.
     fn rest(&mut self) -> &'t str
         ensures piece { result.now ≡ rest_of (progress self.old) }
@@ -90,7 +91,7 @@ impl<'r, 't> Split<'r, 't> {
     {
         self.ended = true;
         let text = self.searcher.haystack();
-        self.part(text.len())
+        part(text, self.last, text.len())
     }
 }
 
@@ -113,7 +114,7 @@ impl<'r, 't> Iterator for Split<'r, 't> {
         {
             None => Some(Ok(self.rest())),
             Some(Ok(item)) => {
-                let piece = self.part(item.found.start);
+                let piece = part(self.searcher.haystack(), self.last, item.found.start);
                 self.last = item.found.end;
                 Some(Ok(piece))
             }
