@@ -19,6 +19,12 @@ use Rattle.fancy_automaton.specs.Cells.{HasRow, KeepsRows, IsCell, IsCellOf, way
 pub has_row : (rows : List (Vec ℕ)) (r : ℕ) (v d : Vec ℕ) (ways : List ℕ) → r < length rows → v ≡ get_or rows r d → v.items ≡ ways → HasRow rows r ways
 has_row rows r v d ways lt is e = (v, slice_get-get_or rows r d lt ∙ ap Some (sym is), e)
 
+-- a list of one item
+pub one_item : (xs : List ℕ) (y d : ℕ) → length xs ≡ 1 → get_or xs 0 d ≡ y → xs ≡ y ∷ []
+one_item [] y d e h = absurd (omega arith)
+one_item (x ∷ []) y d e h = ap (λ (z : ℕ). z ∷ []) h
+one_item (x ∷ z ∷ xs) y d e h = absurd (omega arith)
+
 at_end : (rows : List (Vec ℕ)) (v : Vec ℕ) → slice_get (rows ++ v ∷ []) (length rows) ≡ Some v
 at_end [] v = refl
 at_end (w ∷ rows) v = at_end rows v

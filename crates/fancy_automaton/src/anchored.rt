@@ -151,6 +151,7 @@ fn advance(
 }
 
 /// Where the match begins and ends that begins at the first place, if there is one. No way begins at a later place.
+#[inline(never)]
 pub(crate) fn span_at(
     attempt: &Attempt,
     cells: &mut Cells,

@@ -427,14 +427,15 @@ fn note(
 }
 
 /// Whether the rows before the first place are where they are looked for.
+#[inline(always)]
 fn has_origin(code: &Code, cells: &Cells) -> bool
     ensures { result ≡ true
         → HasRows cells.now.rows.lists.items cells.now.nothing cells.now.alone [] code.now.start }
 {
-    if !cells.rows.has(cells.nothing, &[]) {
+    if !cells.rows.is_empty(cells.nothing) {
         return false;
     }
-    cells.rows.has(cells.alone, &[code.start])
+    cells.rows.has_alone(cells.alone, code.start)
 }
 
 /// Sorts ASCII characters into classes, where that was not done for the code.
@@ -452,6 +453,7 @@ fn sort(code: &Code, cells: &mut Cells) -> Result<(), AllocError>
 
 /// The rows before the first place: that without an instruction, and that of the first instruction alone. Where one more step
 /// may be one too many, all is forgotten before they are made.
+#[inline]
 pub(crate) fn origin(code: &Code, cells: &mut Cells) -> Result<Target, AllocError>
     requires kept { HoldsFor cells.old code.now }
     ensures kept { HoldsFor cells.new code.now }

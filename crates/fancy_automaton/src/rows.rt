@@ -1,6 +1,6 @@
 //! Rows of waiting instructions, each with a number.
 
-ghost use Rattle.std.specs.Prelude.{◌≡◌, [], true, IfOk, IfSome, map};
+ghost use Rattle.std.specs.Prelude.{◌≡◌, [], ◌∷◌, true, IfOk, IfSome, map};
 ghost use Rattle.fancy_automaton.specs.Steps.{at_of};
 ghost use Rattle.fancy_automaton.specs.Cells.{HasRow, GrowsBy, HasRows};
 
@@ -38,6 +38,28 @@ impl Rows {
         match self.lists.get(r) {
             None => false,
             Some(row) => row.as_slice() == ways,
+        }
+    }
+
+    /// Whether the row with this number has no instruction.
+    #[inline(always)]
+    pub fn is_empty(&self, r: usize) -> bool
+        ensures { result ≡ true → HasRow self.now.lists.items r [] }
+    {
+        match self.lists.get(r) {
+            None => false,
+            Some(row) => row.len() == 0,
+        }
+    }
+
+    /// Whether the row with this number has this instruction alone.
+    #[inline(always)]
+    pub fn has_alone(&self, r: usize, way: usize) -> bool
+        ensures { result ≡ true → HasRow self.now.lists.items r (way ∷ []) }
+    {
+        match self.lists.get(r) {
+            None => false,
+            Some(row) => row.len() == 1 && row[0] == way,
         }
     }
 
