@@ -1,9 +1,9 @@
 //! Where the rules of a list match.
 
 use crate::search::Search;
-use fancy_regex::Regex;
-use loft_texts::{Fault, Rule, Severity, Text, TextWork};
-use std::io::Write;
+use fancy_regex::{Matches, Regex};
+use loft_texts::{Content, Fault, Rule, Severity, Text, TextWork};
+use std::io::{self, Write};
 
 /// Checks texts by rules.
 #[derive(Drop)]
@@ -26,6 +26,32 @@ impl<'r> Check<'r> {
     }
 }
 
+/// Writes that a rule matches at a byte of a text.
+fn write_place<W: Write>(rule: &Rule, text: &Text<'_>, at: usize, out: &mut W) -> io::Result<()> {
+    let place = text.place(at);
+    let (line, column) = (place.line, place.column);
+    writeln!(
+        out,
+        "{}:{line}:{column}: {}: {}",
+        text.file, rule.name, rule.message
+    )
+}
+
+/// Writes where the matches of a rule start. Whether there are any.
+fn write_places<W: Write>(
+    rule: &Rule,
+    text: &Text<'_>,
+    matches: &mut Matches<'_, Content<'_>>,
+    out: &mut W,
+) -> Result<bool, Fault> {
+    let mut any = false;
+    for found in matches {
+        write_place(rule, text, found?.start(), out)?;
+        any = true;
+    }
+    Ok(any)
+}
+
 /// Writes where a rule matches in a text. Whether it does.
 fn write_matches<W: Write>(
     rule: &Rule,
@@ -33,18 +59,8 @@ fn write_matches<W: Write>(
     text: &Text<'_>,
     out: &mut W,
 ) -> Result<bool, Fault> {
-    let mut any = false;
-    for found in Search::new(pattern, text.content).matches() {
-        let place = text.place(found?.start());
-        let (line, column) = (place.line, place.column);
-        writeln!(
-            out,
-            "{}:{line}:{column}: {}: {}",
-            text.file, rule.name, rule.message
-        )?;
-        any = true;
-    }
-    Ok(any)
+    let mut matches = Search::new(pattern, text.content).matches();
+    write_places(rule, text, &mut matches.list, out)
 }
 
 impl TextWork for Check<'_> {

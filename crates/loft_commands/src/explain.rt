@@ -37,16 +37,21 @@ fn write_bytes<W: Write>(bytes: &ByteSet, out: &mut W) -> io::Result<()> {
     Ok(())
 }
 
+/// Writes the number of a group, and its name where it has one.
+fn write_group<W: Write>(number: usize, name: Option<&str>, out: &mut W) -> io::Result<()> {
+    match name {
+        Some(name) => writeln!(out, "  {number} {name}"),
+        None if number == 0 => writeln!(out, "  0 (the whole match)"),
+        None => writeln!(out, "  {number}"),
+    }
+}
+
 /// Writes the groups with their names.
 fn write_groups<W: Write>(regex: &Regex, out: &mut W) -> Result<(), Fault> {
     writeln!(out, "groups: {}", regex.captures_len())?;
     let mut number = 0usize;
     for name in regex.capture_names()? {
-        match name {
-            Some(name) => writeln!(out, "  {number} {name}")?,
-            None if number == 0 => writeln!(out, "  0 (the whole match)")?,
-            None => writeln!(out, "  {number}")?,
-        }
+        write_group(number, name, out)?;
         number = number.saturating_add(1);
     }
     Ok(())
@@ -66,6 +71,22 @@ fn write_kind<W: Write>(regex: &Regex, pattern: &str, out: &mut W) -> io::Result
     }
 }
 
+/// Writes whether the pattern is easy, and how long its code is.
+fn write_code<W: Write>(regex: &Regex, pattern: &str, out: &mut W) -> io::Result<()> {
+    write_kind(regex, pattern, out)?;
+    writeln!(out, "code: {} instructions", regex.code_len())
+}
+
+/// Writes these bytes after what they are called.
+fn write_set<W: Write>(name: &str, bytes: Option<&ByteSet>, out: &mut W) -> io::Result<()> {
+    write!(out, "{name} bytes:")?;
+    match bytes {
+        Some(bytes) => write_bytes(bytes, out)?,
+        None => out.write_all(b" any, or none")?,
+    }
+    out.write_all(b"\n")
+}
+
 /// Writes with which bytes a match may start, and which are in each match.
 fn write_needs<W: Write>(
     alloc: Global,
@@ -73,14 +94,10 @@ fn write_needs<W: Write>(
     options: &RegexOptionsBuilder,
     out: &mut W,
 ) -> Result<(), Fault> {
-    out.write_all(b"start bytes:")?;
-    match options.start_bytes(alloc, pattern)? {
-        Some(bytes) => write_bytes(&bytes, out)?,
-        None => out.write_all(b" any, or none")?,
-    }
-    out.write_all(b"\nrequired bytes:")?;
-    write_bytes(&options.required_bytes(alloc, pattern)?, out)?;
-    out.write_all(b"\n")?;
+    let start = options.start_bytes(alloc, pattern)?;
+    write_set("start", start.as_ref(), out)?;
+    let required = options.required_bytes(alloc, pattern)?;
+    write_set("required", Some(&required), out)?;
     Ok(())
 }
 
@@ -94,7 +111,6 @@ pub(crate) fn write_explained<W: Write>(
     let pattern = regex.as_str();
     writeln!(out, "pattern: {pattern}")?;
     write_groups(regex, out)?;
-    write_kind(regex, pattern, out)?;
-    writeln!(out, "code: {} instructions", regex.code_len())?;
+    write_code(regex, pattern, out)?;
     write_needs(alloc, pattern, options, out)
 }

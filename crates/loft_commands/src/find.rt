@@ -2,7 +2,7 @@
 
 use crate::json::write_json;
 use crate::patterns::Pattern;
-use fancy_regex::{ByteSet, Captures, MatchBytes};
+use fancy_regex::{ByteSet, CaptureMatches, Captures, MatchBytes, Matches};
 use loft_texts::{Colour, Content, Fault, Text, TextWork, write_painted};
 use loft_words::Report;
 use memchr::{memchr, memrchr};
@@ -52,6 +52,25 @@ fn write_up_to<W: Write>(
     Ok(found.end())
 }
 
+/// Writes a text up to the end of the last match of a list, which are in colour. Where that is.
+fn write_up_to_each<W: Write>(
+    text: &[u8],
+    matches: &mut Matches<'_, Content<'_>>,
+    out: &mut W,
+) -> Result<usize, Fault> {
+    let mut at = 0;
+    for found in matches {
+        at = write_up_to(text, at, found?, out)?;
+    }
+    Ok(at)
+}
+
+/// Writes bytes as a line.
+fn write_line<W: Write>(bytes: &[u8], out: &mut W) -> io::Result<()> {
+    out.write_all(bytes)?;
+    out.write_all(b"\n")
+}
+
 impl<'r> Find<'r> {
     /// Finds by this pattern.
     pub(crate) fn new(pattern: &'r Pattern, report: Report, colours: bool) -> Find<'r> {
@@ -65,11 +84,10 @@ impl<'r> Find<'r> {
     }
 
     /// Writes the file's name, the line and the column of a byte of the text.
-    fn write_place<W: Write>(&self, text: &Text<'_>, at: usize, out: &mut W) -> Result<(), Fault> {
+    fn write_place<W: Write>(&self, text: &Text<'_>, at: usize, out: &mut W) -> io::Result<()> {
         let place = text.place(at);
         write_painted(self.colours, Colour::FILE, text.file.as_bytes(), out)?;
-        write!(out, ":{}:{}:", place.line, place.column)?;
-        Ok(())
+        write!(out, ":{}:{}:", place.line, place.column)
     }
 
     /// Writes the text with its place, its matches in colour.
@@ -85,23 +103,30 @@ impl<'r> Find<'r> {
         } else {
             0
         };
-        out.write_all(part(text.bytes(), at, text.bytes().len()))?;
-        out.write_all(b"\n")?;
+        write_line(part(text.bytes(), at, text.bytes().len()), out)?;
         Ok(())
     }
 
     /// Writes a text up to the end of its last match, its matches in colour. Where that is.
     fn write_coloured<W: Write>(&self, text: &Text<'_>, out: &mut W) -> Result<usize, Fault> {
-        let mut at = 0;
-        for found in self.pattern.search(text.content).matches() {
-            at = write_up_to(text.bytes(), at, found?, out)?;
-        }
-        Ok(at)
+        let mut matches = self.pattern.search(text.content).matches();
+        write_up_to_each(text.bytes(), &mut matches.list, out)
     }
 
     /// Writes each match of the text: alone, or of a whole file with its place and its lines.
     fn write_matches<W: Write>(&self, text: &Text<'_>, out: &mut W) -> Result<(), Fault> {
-        for found in self.pattern.search(text.content).matches() {
+        let mut matches = self.pattern.search(text.content).matches();
+        self.write_each_match(text, &mut matches.list, out)
+    }
+
+    /// Writes the matches of a list.
+    fn write_each_match<W: Write>(
+        &self,
+        text: &Text<'_>,
+        matches: &mut Matches<'_, Content<'_>>,
+        out: &mut W,
+    ) -> Result<(), Fault> {
+        for found in matches {
             self.write_match(text, found?, out)?;
         }
         Ok(())
@@ -113,13 +138,12 @@ impl<'r> Find<'r> {
         text: &Text<'_>,
         found: MatchBytes<'_>,
         out: &mut W,
-    ) -> Result<(), Fault> {
+    ) -> io::Result<()> {
         if let Report::Lines = self.report {
             return self.write_part(text, found, out);
         }
         write_painted(self.colours, Colour::MATCH, found.as_bytes(), out)?;
-        out.write_all(b"\n")?;
-        Ok(())
+        out.write_all(b"\n")
     }
 
     /// Writes the place of a match, and the lines that it is in.
@@ -128,18 +152,30 @@ impl<'r> Find<'r> {
         text: &Text<'_>,
         found: MatchBytes<'_>,
         out: &mut W,
-    ) -> Result<(), Fault> {
+    ) -> io::Result<()> {
         self.write_place(text, found.start(), out)?;
         out.write_all(last_line(part(text.bytes(), 0, found.start())))?;
         write_painted(self.colours, Colour::MATCH, found.as_bytes(), out)?;
-        out.write_all(first_line(part(text.bytes(), found.end(), text.bytes().len())))?;
-        out.write_all(b"\n")?;
-        Ok(())
+        write_line(
+            first_line(part(text.bytes(), found.end(), text.bytes().len())),
+            out,
+        )
     }
 
     /// Writes each match of the text with its groups.
     fn write_groups<W: Write>(&self, text: &Text<'_>, out: &mut W) -> Result<(), Fault> {
-        for captures in self.pattern.search(text.content).captures() {
+        let mut matches = self.pattern.search(text.content).captures();
+        self.write_each_captures(text, &mut matches.list, out)
+    }
+
+    /// Writes the matches of a list with their groups.
+    fn write_each_captures<W: Write>(
+        &self,
+        text: &Text<'_>,
+        matches: &mut CaptureMatches<'_, Content<'_>>,
+        out: &mut W,
+    ) -> Result<(), Fault> {
+        for captures in matches {
             self.write_captures(text, &captures?, out)?;
         }
         Ok(())
@@ -151,10 +187,9 @@ impl<'r> Find<'r> {
         text: &Text<'_>,
         captures: &Captures<'_, Content<'_>>,
         out: &mut W,
-    ) -> Result<(), Fault> {
+    ) -> io::Result<()> {
         if let Report::Json = self.report {
-            write_json(text, captures, out)?;
-            return Ok(());
+            return write_json(text, captures, out);
         }
         for number in 0..captures.len() {
             if let Some(group) = captures.get(number) {
@@ -171,12 +206,11 @@ impl<'r> Find<'r> {
         number: usize,
         group: MatchBytes<'_>,
         out: &mut W,
-    ) -> Result<(), Fault> {
+    ) -> io::Result<()> {
         self.write_place(text, group.start(), out)?;
         write!(out, "{number}=")?;
         write_painted(self.colours, Colour::MATCH, group.as_bytes(), out)?;
-        out.write_all(b"\n")?;
-        Ok(())
+        out.write_all(b"\n")
     }
 }
 

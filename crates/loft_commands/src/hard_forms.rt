@@ -1,7 +1,7 @@
 //! Why a pattern is hard, as far as its text shows.
 
 /// Forms that make a pattern hard, and what they are called. The first that fits at a place is told.
-const FORMS: [(&str, &str); 14] = [
+static FORMS: [(&str, &str); 14] = [
     ("(?=", "look-ahead"),
     ("(?!", "negative look-ahead"),
     ("(?<=", "look-behind"),
@@ -20,9 +20,9 @@ const FORMS: [(&str, &str); 14] = [
 
 /// The form that begins here, if one does.
 fn form_here(rest: &str) -> Option<&'static str> {
-    for (mark, name) in FORMS {
-        if rest.starts_with(mark) {
-            return Some(name);
+    for (mark, name) in &FORMS {
+        if rest.starts_with(*mark) {
+            return Some(*name);
         }
     }
     let digit = rest.strip_prefix("\\")?.chars().next()?;

@@ -4,7 +4,7 @@ use crate::replace::Gather;
 use crate::rewrite::Rewrite;
 use loft_files::{DiskStore, put_in_place};
 use loft_texts::{Console, Fault, Outcome, TextWork, each_text, is_standard_input};
-use std::fs;
+use std::fs::{self, Metadata};
 use std::io::{Input, Write};
 use std::rt::Files;
 use std::time::Clock;
@@ -43,8 +43,18 @@ fn replace_file<R: Files + Input + Clock + AllocGlobal, W: Write, X: Write>(
     let mut work = Gather::new(rewrite, Vec::new(rt.alloc()));
     each_text(rt, file, &mut work, console)?;
     if work.found() {
-        let mut store = DiskStore::new(rt.alloc(), rt, file, before)?;
-        put_in_place(&mut store, &work.bytes).map_err(Fault::Input)?;
+        put(rt, file, before, &work.bytes)?;
     }
     Ok(work.found())
+}
+
+/// Puts bytes in the place of what a file holds, which was looked at before it was read.
+fn put<R: Files + AllocGlobal>(
+    rt: &R,
+    file: &str,
+    before: Metadata,
+    bytes: &[u8],
+) -> Result<(), Fault> {
+    let mut store = DiskStore::new(rt.alloc(), rt, file, before)?;
+    put_in_place(&mut store, bytes).map_err(Fault::Input)
 }

@@ -31,19 +31,48 @@ fn write_string<W: Write>(bytes: &[u8], out: &mut W) -> io::Result<()> {
     out.write_all(b"\"")
 }
 
-/// Writes the ends and the text of a group, or `null` for one that took no part.
+/// Writes a group, or `null` for one that took no part.
 fn write_group<W: Write>(
     text: &Text<'_>,
     group: Option<MatchBytes<'_>>,
     out: &mut W,
 ) -> io::Result<()> {
-    let Some(group) = group else {
-        return out.write_all(b"null");
-    };
+    match group {
+        Some(group) => write_span(text, group, out),
+        None => out.write_all(b"null"),
+    }
+}
+
+/// Writes the ends and the text of a group.
+fn write_span<W: Write>(text: &Text<'_>, group: MatchBytes<'_>, out: &mut W) -> io::Result<()> {
     let (start, end) = (text.offset_of(group.start()), text.offset_of(group.end()));
     write!(out, "{{\"start\":{start},\"end\":{end},\"text\":")?;
     write_string(group.as_bytes(), out)?;
     out.write_all(b"}")
+}
+
+/// Writes the start of an object, with the place of a byte of the text.
+fn write_place<W: Write>(text: &Text<'_>, at: usize, out: &mut W) -> io::Result<()> {
+    let place = text.place(at);
+    out.write_all(b"{\"file\":")?;
+    write_string(text.file.as_bytes(), out)?;
+    write!(out, ",\"line\":{},\"column\":{}", place.line, place.column)
+}
+
+/// Writes the groups of a match.
+fn write_groups<W: Write>(
+    text: &Text<'_>,
+    captures: &Captures<'_, Content<'_>>,
+    out: &mut W,
+) -> io::Result<()> {
+    out.write_all(b",\"groups\":[")?;
+    for number in 0..captures.len() {
+        if number > 0 {
+            out.write_all(b",")?;
+        }
+        write_group(text, captures.get(number), out)?;
+    }
+    out.write_all(b"]")
 }
 
 /// Writes a match with its groups as a line.
@@ -56,16 +85,7 @@ pub(crate) fn write_json<W: Write>(
         Some(found) => found.start(),
         None => 0,
     };
-    let place = text.place(start);
-    out.write_all(b"{\"file\":")?;
-    write_string(text.file.as_bytes(), out)?;
-    write!(out, ",\"line\":{},\"column\":{}", place.line, place.column)?;
-    out.write_all(b",\"groups\":[")?;
-    for number in 0..captures.len() {
-        if number > 0 {
-            out.write_all(b",")?;
-        }
-        write_group(text, captures.get(number), out)?;
-    }
-    out.write_all(b"]}\n")
+    write_place(text, start, out)?;
+    write_groups(text, captures, out)?;
+    out.write_all(b"}\n")
 }

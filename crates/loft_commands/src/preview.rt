@@ -4,7 +4,7 @@ use crate::rewrite::Rewrite;
 use bstr::ByteSlice;
 use fancy_regex::ByteSet;
 use loft_texts::{Fault, Text, TextWork, wide};
-use std::alloc::Global;
+use std::alloc::{AllocError, Global};
 use std::io::{self, Write};
 
 /// Writes what would change.
@@ -34,6 +34,24 @@ fn write_lines<W: Write>(mark: &[u8], bytes: &[u8], out: &mut W) -> io::Result<(
         }
     }
     Ok(())
+}
+
+/// Writes the names of a file before and after a change.
+fn write_names<W: Write>(file: &str, out: &mut W) -> io::Result<()> {
+    writeln!(out, "--- {file}")?;
+    writeln!(out, "+++ {file}")
+}
+
+/// Writes which lines change: the first one's number and how many they are, before and after.
+fn write_places<W: Write>(old: (u64, u64), new: (u64, u64), out: &mut W) -> io::Result<()> {
+    writeln!(out, "@@ -{},{} +{},{} @@", old.0, old.1, new.0, new.1)
+}
+
+/// A text with the line feed that ends it.
+fn with_end(alloc: Global, text: &Text<'_>) -> Result<Vec<u8>, AllocError> {
+    let mut bytes = Vec::from_slice(alloc, text.bytes())?;
+    bytes.extend_from_slice(text.end)?;
+    Ok(bytes)
 }
 
 /// How many bytes of whole lines both begin with.
@@ -71,33 +89,54 @@ impl<'r> Preview<'r> {
         }
     }
 
-    /// Writes the part of a file that changes: its old lines and its new ones.
+    /// Writes the part of a file that changes.
     fn write_part<W: Write>(
         &mut self,
         text: &Text<'_>,
         old: &[u8],
         new: &[u8],
         out: &mut W,
-    ) -> Result<(), Fault> {
+    ) -> io::Result<()> {
         if !self.shown {
-            writeln!(out, "--- {}", text.file)?;
-            writeln!(out, "+++ {}", text.file)?;
+            write_names(text.file, out)?;
             self.shown = true;
         }
         let kept = common_lines(old, new);
         let passed = lines(until(text.bytes(), kept));
-        let old = after(old, kept);
-        let new = after(new, kept);
         let line = text.line.saturating_add(passed);
+        self.write_change(line, after(old, kept), after(new, kept), out)
+    }
+
+    /// Writes old lines, the first of which has this number, and the new ones in their place.
+    fn write_change<W: Write>(
+        &mut self,
+        line: u64,
+        old: &[u8],
+        new: &[u8],
+        out: &mut W,
+    ) -> io::Result<()> {
         let (removed, added) = (lines(old), lines(new));
         let new_line = line.saturating_add_signed(self.added);
-        writeln!(out, "@@ -{line},{removed} +{new_line},{added} @@")?;
+        write_places((line, removed), (new_line, added), out)?;
         write_lines(b"-", old, out)?;
         write_lines(b"+", new, out)?;
         self.added = self
             .added
             .saturating_add_unsigned(added)
             .saturating_sub_unsigned(removed);
+        Ok(())
+    }
+
+    /// Writes what changes where this takes the place of a text.
+    fn write_new<W: Write>(
+        &mut self,
+        text: &Text<'_>,
+        new: &mut Vec<u8>,
+        out: &mut W,
+    ) -> Result<(), Fault> {
+        let old = with_end(self.alloc, text)?;
+        new.extend_from_slice(text.end)?;
+        self.write_part(text, &old, new, out)?;
         Ok(())
     }
 }
@@ -111,10 +150,7 @@ impl TextWork for Preview<'_> {
         if new.as_slice() == text.bytes() {
             return Ok(());
         }
-        let mut old = Vec::from_slice(self.alloc, text.bytes())?;
-        old.extend_from_slice(text.end)?;
-        new.extend_from_slice(text.end)?;
-        self.write_part(text, &old, &new, out)
+        self.write_new(text, &mut new, out)
     }
 
     fn required(&self) -> Option<&ByteSet> {

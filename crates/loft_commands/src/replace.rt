@@ -3,13 +3,26 @@
 use crate::rewrite::Rewrite;
 use fancy_regex::ByteSet;
 use loft_texts::{Fault, Text, TextWork};
-use std::io::Write;
+use std::io::{self, Write};
 
 /// Writes texts with their matches replaced.
 #[derive(Drop)]
 pub(crate) struct Replace<'r> {
     rewrite: Rewrite<'r>,
     found: bool,
+}
+
+/// Writes what a text was replaced by, or the text itself, with the line feed that ends it.
+fn write_replaced<W: Write>(
+    text: &Text<'_>,
+    replaced: &Option<Vec<u8>>,
+    out: &mut W,
+) -> io::Result<()> {
+    out.write_all(match replaced {
+        Some(bytes) => bytes.as_slice(),
+        None => text.bytes(),
+    })?;
+    out.write_all(text.end)
 }
 
 impl<'r> Replace<'r> {
@@ -24,14 +37,9 @@ impl<'r> Replace<'r> {
 
 impl TextWork for Replace<'_> {
     fn text<W: Write>(&mut self, text: &Text<'_>, out: &mut W) -> Result<(), Fault> {
-        match self.rewrite.rewrite(text.content)? {
-            Some(bytes) => {
-                self.found = true;
-                out.write_all(&bytes)?;
-            }
-            None => out.write_all(text.bytes())?,
-        }
-        out.write_all(text.end)?;
+        let replaced = self.rewrite.rewrite(text.content)?;
+        self.found = self.found || replaced.is_some();
+        write_replaced(text, &replaced, out)?;
         Ok(())
     }
 

@@ -8,7 +8,7 @@ ghost use Rattle.fancy_regex.specs.Searching.{Suits};
 
 use crate::patterns::Pattern;
 use crate::search::Search;
-use fancy_regex::{ByteSet, Captures, Error, Expander, NoExpand, Regex, Step};
+use fancy_regex::{ByteSet, CaptureMatches, Captures, Error, Expander, NoExpand, Regex, Step};
 use loft_texts::{Content, Fault};
 use loft_words::Replacement;
 use std::alloc::{AllocError, Global};
@@ -126,19 +126,31 @@ impl<'r> Rewrite<'r> {
         Ok(found.end())
     }
 
-    /// Bytes that are no text with their matches replaced; none where nothing matches.
-    fn bytes(&self, search: Search<'_>, bytes: &[u8]) -> Result<Option<Vec<u8>>, Fault> {
-        let mut to = Vec::new(self.alloc);
+    /// Appends bytes with the matches of a list replaced. How many were.
+    fn push_bytes(
+        &self,
+        to: &mut Vec<u8>,
+        bytes: &[u8],
+        matches: &mut CaptureMatches<'_, Content<'_>>,
+    ) -> Result<usize, Fault> {
         let mut at = 0;
         let mut count = 0usize;
-        for captures in search.captures() {
-            at = self.push_match(&mut to, bytes, at, &captures?)?;
+        for captures in matches {
+            at = self.push_match(to, bytes, at, &captures?)?;
             count = count.saturating_add(1);
             if count == self.by.limit {
                 break;
             }
         }
         to.extend_from_slice(bytes.get(at..).unwrap_or(b""))?;
+        Ok(count)
+    }
+
+    /// Bytes that are no text with their matches replaced; none where nothing matches.
+    fn bytes(&self, search: Search<'_>, bytes: &[u8]) -> Result<Option<Vec<u8>>, Fault> {
+        let mut to = Vec::new(self.alloc);
+        let mut matches = search.captures();
+        let count = self.push_bytes(&mut to, bytes, &mut matches.list)?;
         Ok((count > 0).then_some(to))
     }
 

@@ -7,6 +7,17 @@ ghost use Rattle.loft_texts.specs.Contents.{bytes_of, is_text};
 use fancy_regex::{CaptureMatches, Error, MatchBytes, Matches, Regex, RegexInput};
 use loft_texts::Content;
 
+/// A list that is let go of by hand, so that no function that makes one proves it once more.
+pub(crate) struct Held<I: Drop> {
+    pub(crate) list: I,
+}
+
+impl<I: Drop> Drop for Held<I> {
+    fn drop(self) {
+        let Held { list: _ } = self;
+    }
+}
+
 /// A pattern, and what it is to search: text, unless a match might cut its characters.
 #[derive(Clone, Copy)]
 pub(crate) struct Search<'s> {
@@ -31,12 +42,16 @@ impl<'s> Search<'s> {
     }
 
     /// All matches.
-    pub(crate) fn matches(self) -> Matches<'s, Content<'s>> {
-        self.regex.find_iter(self.content)
+    pub(crate) fn matches(self) -> Held<Matches<'s, Content<'s>>> {
+        Held {
+            list: self.regex.find_iter(self.content),
+        }
     }
 
     /// All matches with their groups.
-    pub(crate) fn captures(self) -> CaptureMatches<'s, Content<'s>> {
-        self.regex.captures_iter(self.content)
+    pub(crate) fn captures(self) -> Held<CaptureMatches<'s, Content<'s>>> {
+        Held {
+            list: self.regex.captures_iter(self.content),
+        }
     }
 }

@@ -1,7 +1,8 @@
 //! The pieces between matches.
 
 use crate::patterns::Pattern;
-use loft_texts::{Fault, Text, TextWork};
+use fancy_regex::Matches;
+use loft_texts::{Content, Fault, Text, TextWork};
 use std::io::{self, Write};
 
 /// Splits texts at matches.
@@ -33,10 +34,21 @@ impl Split<'_> {
 
     /// Writes the pieces before the last match. Where that ends.
     fn write_pieces<W: Write>(&self, text: &Text<'_>, out: &mut W) -> Result<usize, Fault> {
+        let mut matches = self.pattern.search(text.content).matches();
+        self.write_each_piece(text.bytes(), &mut matches.list, out)
+    }
+
+    /// Writes the pieces before the last match of a list. Where that ends.
+    fn write_each_piece<W: Write>(
+        &self,
+        text: &[u8],
+        matches: &mut Matches<'_, Content<'_>>,
+        out: &mut W,
+    ) -> Result<usize, Fault> {
         let mut at = 0;
-        for found in self.pattern.search(text.content).matches() {
+        for found in matches {
             let found = found?;
-            self.write_piece(text.bytes().get(at..found.start()).unwrap_or(b""), out)?;
+            self.write_piece(text.get(at..found.start()).unwrap_or(b""), out)?;
             at = found.end();
         }
         Ok(at)

@@ -122,12 +122,22 @@ fn by_rules<R: Files + Input + Clock + AllocGlobal, W: Write, X: Write>(
 ) -> Result<Outcome, Fault> {
     let text = read_all(rt, list)?;
     let rules = read_rules(rt.alloc(), &text)?;
-    let options = library_options(&command.options);
-    let patterns = read_patterns(rt.alloc(), &rules, &options)?;
+    apply(rt, command, &rules, work, console)
+}
+
+/// Does work with rules on each file.
+fn apply<R: Files + Input + Clock + AllocGlobal, W: Write, X: Write>(
+    rt: &R,
+    command: &Command<'_>,
+    rules: &[Rule],
+    work: RulesWork,
+    console: &mut Console<'_, W, X>,
+) -> Result<Outcome, Fault> {
+    let patterns = read_patterns(rt.alloc(), rules, &library_options(&command.options))?;
     match work {
-        RulesWork::Check => check(rt, &command.files, &rules, patterns, console),
-        RulesWork::Tokens => tokens(rt, &command.files, &rules, patterns, false, console),
-        RulesWork::Highlight => tokens(rt, &command.files, &rules, patterns, true, console),
+        RulesWork::Check => check(rt, &command.files, rules, patterns, console),
+        RulesWork::Tokens => tokens(rt, &command.files, rules, patterns, false, console),
+        RulesWork::Highlight => tokens(rt, &command.files, rules, patterns, true, console),
     }
 }
 

@@ -44,6 +44,21 @@ fn write_piece<W: Write>(piece: &[u8], out: &mut W) -> io::Result<()> {
     out.write_all(end)
 }
 
+/// Writes a text in the colour of its kind, as it is where it has none.
+fn write_highlighted<W: Write>(kind: Option<usize>, bytes: &[u8], out: &mut W) -> io::Result<()> {
+    match kind {
+        Some(kind) => write_painted(true, Colour::of_kind(kind), bytes, out),
+        None => out.write_all(bytes),
+    }
+}
+
+/// Writes a line of a token: its kind, its place and its text.
+fn write_token<W: Write>(kind: &str, part: Part, bytes: &[u8], out: &mut W) -> io::Result<()> {
+    write!(out, "{kind} {}..{} ", part.start, part.end)?;
+    write_in_line(bytes, out)?;
+    out.write_all(b"\n")
+}
+
 /// How many bytes the character takes that begins at a place, a byte that is in none being one.
 fn character_width(text: &[u8], at: usize) -> usize {
     let (_, width) = bstr::decode_utf8(text.get(at..).unwrap_or(b""));
@@ -89,27 +104,15 @@ impl<'r> Tokens<'r> {
     }
 
     /// Writes a part of the text.
-    fn write_part<W: Write>(&self, text: &Text<'_>, part: Part, out: &mut W) -> Result<(), Fault> {
+    fn write_part<W: Write>(&self, text: &Text<'_>, part: Part, out: &mut W) -> io::Result<()> {
         let bytes = text.bytes().get(part.start..part.end).unwrap_or(b"");
         if self.highlight {
-            match part.kind {
-                Some(kind) => write_painted(true, Colour::of_kind(kind), bytes, out)?,
-                None => out.write_all(bytes)?,
-            }
+            return write_highlighted(part.kind, bytes, out);
+        }
+        if bytes.is_empty() {
             return Ok(());
         }
-        if !bytes.is_empty() {
-            write!(
-                out,
-                "{} {}..{} ",
-                self.name(part.kind),
-                part.start,
-                part.end
-            )?;
-            write_in_line(bytes, out)?;
-            out.write_all(b"\n")?;
-        }
-        Ok(())
+        write_token(self.name(part.kind), part, bytes, out)
     }
 
     /// Writes tokens from a place on, up to where there is none. Where that is.

@@ -93,13 +93,12 @@ impl<'c, W: Write, X: Write> Console<'c, W, X> {
     ) -> Result<Outcome, Fault> {
         let mut outcome = Outcome::new();
         for file in files {
-            match each_text(rt, file, work, self) {
-                Ok(()) => {}
-                Err(Fault::Output(error)) => return Err(Fault::Output(error)),
-                Err(fault) => {
-                    self.tell_fault(file, &fault);
-                    outcome.faulted = true;
+            if let Err(fault) = each_text(rt, file, work, self) {
+                if fault.ends_the_output() {
+                    return Err(fault);
                 }
+                self.tell_fault(file, &fault);
+                outcome.faulted = true;
             }
         }
         self.clear_progress();

@@ -30,7 +30,6 @@ impl RuleFault {
 }
 
 /// What ended a command, or the work on one file.
-#[derive(Drop)]
 pub enum Fault {
     /// A pattern or a search was refused, or memory for it.
     Search(Error),
@@ -46,7 +45,26 @@ pub enum Fault {
     RulePattern(u64, Error),
 }
 
+/// By hand, so that crates above do not prove it once more.
+impl Drop for Fault {
+    fn drop(self) {
+        match self {
+            Fault::Search(_) => {}
+            Fault::Input(_) => {}
+            Fault::Output(_) => {}
+            Fault::InPlace => {}
+            Fault::Rule(_, _) => {}
+            Fault::RulePattern(_, _) => {}
+        }
+    }
+}
+
 impl Fault {
+    /// Whether nothing more can be written.
+    pub(crate) fn ends_the_output(&self) -> bool {
+        matches!(self, Fault::Output(_))
+    }
+
     /// Whether the reader of the output has gone away, which is no fault of the program.
     pub(crate) fn is_closed_pipe(&self) -> bool {
         match self {
@@ -59,10 +77,9 @@ impl Fault {
 impl fmt::Display for Fault {
     fn fmt<W: fmt::Write>(&self, f: &mut fmt::Formatter<W>) -> fmt::Result {
         match self {
-            Fault::Search(error) => write!(f, "{error}"),
-            Fault::Input(error) => write!(f, "{error}"),
-            Fault::Output(error) => write!(f, "{error}"),
-            Fault::InPlace => write!(f, "standard input cannot be changed in place"),
+            Fault::Search(error) => error.fmt(f),
+            Fault::Input(error) | Fault::Output(error) => error.fmt(f),
+            Fault::InPlace => f.write_str("standard input cannot be changed in place"),
             Fault::Rule(number, fault) => write!(f, "rule {number}: {}", fault.words()),
             Fault::RulePattern(number, error) => write!(f, "rule {number}: {error}"),
         }

@@ -1,7 +1,8 @@
 //! The rules of a list.
 
 use crate::fault::{Fault, RuleFault};
-use csv::{ByteRecord, ReaderBuilder};
+use crate::text::wide;
+use csv::{ByteRecord, ByteRecordsIntoIter, ReaderBuilder};
 use std::alloc::Global;
 
 /// How bad it is that a rule matches.
@@ -62,23 +63,43 @@ fn is_header(record: &ByteRecord) -> bool {
     record.get(0) == Some(b"name") && record.get(1) == Some(b"pattern")
 }
 
+/// The number of the rule after these.
+fn number_after(rules: &[Rule]) -> u64 {
+    wide(rules.len()).saturating_add(1)
+}
+
+/// Adds the rule of a record to those before it. A record before the first rule may name the columns.
+fn add_rule(alloc: Global, record: &ByteRecord, rules: &mut Vec<Rule>) -> Result<(), Fault> {
+    if !rules.is_empty() || !is_header(record) {
+        let rule = read_rule(alloc, record, number_after(rules))?;
+        rules.push(rule)?;
+    }
+    Ok(())
+}
+
+/// Adds the rules of records to those before them.
+fn add_rules(
+    alloc: Global,
+    records: &mut ByteRecordsIntoIter<&[u8]>,
+    rules: &mut Vec<Rule>,
+) -> Result<(), Fault> {
+    for record in records {
+        match record {
+            Ok(record) => add_rule(alloc, &record, rules)?,
+            Err(_) => return Err(Fault::Rule(number_after(rules), RuleFault::Unreadable)),
+        }
+    }
+    Ok(())
+}
+
 /// The rules of a list. A first record with `name` and `pattern` in it names the columns.
 pub fn read_rules(alloc: Global, text: &[u8]) -> Result<Vec<Rule>, Fault> {
     let reader = ReaderBuilder::new()
         .has_headers(false)
         .flexible(true)
         .from_reader(alloc, text);
+    let mut records = reader.into_byte_records();
     let mut rules = Vec::new(alloc);
-    let mut number = 0u64;
-    for record in reader.into_byte_records() {
-        let Ok(record) = record else {
-            return Err(Fault::Rule(number.saturating_add(1), RuleFault::Unreadable));
-        };
-        if number == 0 && is_header(&record) {
-            continue;
-        }
-        number = number.saturating_add(1);
-        rules.push(read_rule(alloc, &record, number)?)?;
-    }
+    add_rules(alloc, &mut records, &mut rules)?;
     Ok(rules)
 }

@@ -70,16 +70,22 @@ fn command<'w>(alloc: Global, described: &'static Described) -> Result<Command<'
     with_options(alloc, command, &PATTERN_OPTIONS)
 }
 
+/// The program with its commands.
+fn with_commands<'w>(alloc: Global, program: Command<'w>) -> Result<Command<'w>, AllocError> {
+    let mut program = program;
+    for described in &COMMANDS {
+        program = program.subcommand(command(alloc, described)?)?;
+    }
+    Ok(program)
+}
+
 /// The words of the program.
 pub(crate) fn program<'w>(alloc: Global) -> Result<Command<'w>, AllocError> {
-    let mut program = Command::new(alloc, "loft")
+    let program = Command::new(alloc, "loft")
         .about(ABOUT)
         .version(VERSION)
         .after_help(STATUS)
         .subcommand_required(true)
         .arg_required_else_help(true);
-    for described in &COMMANDS {
-        program = program.subcommand(command(alloc, described)?)?;
-    }
-    Ok(program)
+    with_commands(alloc, program)
 }

@@ -4,7 +4,7 @@ use crate::asked::{
     Colours, Command, PatternOptions, PatternWork, Replacement, Report, RulesWork, Task, Way,
 };
 use crate::program::program;
-use crate::words::{COMMANDS, Verb};
+use crate::words::{Verb, verb_of};
 use clap::{ArgMatches, Error};
 use std::alloc::{AllocError, Global};
 
@@ -41,12 +41,7 @@ fn answer<'w>(alloc: Global, error: &Error) -> Result<Request<'w>, AllocError> {
 /// What the command among the words does, and its own words.
 fn subcommand<'m, 'w>(matches: &'m ArgMatches<'w>) -> Option<(Verb, &'m ArgMatches<'w>)> {
     let (name, matches) = matches.subcommand()?;
-    for described in &COMMANDS {
-        if described.name == name {
-            return Some((described.verb, matches));
-        }
-    }
-    None
+    Some((verb_of(name)?, matches))
 }
 
 /// The command that was met among the words.
@@ -54,12 +49,22 @@ fn read_matches<'w>(alloc: Global, matches: &ArgMatches<'w>) -> Result<Request<'
     let Some((verb, matches)) = subcommand(matches) else {
         return Ok(Request::Refuse(String::from_str(alloc, "error: a command is wanted\n")?));
     };
-    Ok(Request::Do(Command {
+    Ok(Request::Do(command_of(alloc, verb, matches)?))
+}
+
+/// A command with the words that were met for it.
+fn command_of<'w>(
+    alloc: Global,
+    verb: Verb,
+    matches: &ArgMatches<'w>,
+) -> Result<Command<'w>, AllocError> {
+    let files = files_of(alloc, matches)?;
+    Ok(Command {
         task: task_of(verb, matches),
         options: options_of(matches),
         whole: matches.get_flag("multiline") || matches!(verb, Verb::Tokens),
-        files: files_of(alloc, matches)?,
-    }))
+        files,
+    })
 }
 
 /// The names of files among the words; `-` alone, where there is none.

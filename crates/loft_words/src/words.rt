@@ -220,3 +220,13 @@ Status 1 where a rule of severity error matched, else 0.",
         examples: "loft manual > loft.1",
     },
 ];
+
+/// What the command of this name does.
+pub(crate) fn verb_of(name: &str) -> Option<Verb> {
+    for described in &COMMANDS {
+        if described.name == name {
+            return Some(described.verb);
+        }
+    }
+    None
+}
