@@ -123,17 +123,29 @@ fn each_line<R: Clock + AllocGlobal, B: Read + Drop, V: TextWork, W: Write, X: W
     let alloc = rt.alloc();
     let mut reader = BufReader::with_capacity(alloc, READ_AT_ONCE, reader).map_err(Fault::Input)?;
     let mut line = Vec::new(alloc);
+    read_lines(rt, &mut reader, &mut line, file, work, console)
+}
+
+/// Hands each line of a buffered reader to the work, by way of `line` those that it has only in part.
+fn read_lines<R: Clock, B: Read, V: TextWork, W: Write, X: Write>(
+    rt: &R,
+    reader: &mut BufReader<B>,
+    line: &mut Vec<u8>,
+    file: &str,
+    work: &mut V,
+    console: &mut Console<'_, W, X>,
+) -> Result<(), Fault> {
     let mut reading = Reading::new(file);
     for turn in 0..u64::MAX {
         line.clear();
-        let taken = reader.read_until(b'\n', &mut line).map_err(Fault::Input)?;
+        let taken = reader.read_until(b'\n', line).map_err(Fault::Input)?;
         if taken == 0 || work.is_done() {
             return Ok(());
         }
         if turn == 0 {
             reading.look_for(work.required(), reader.buffer());
         }
-        reading.hand_on(&line, work, console.out)?;
+        reading.hand_on(line, work, console.out)?;
         let ahead = reader.buffer();
         let whole = line_start(ahead, ahead.len());
         reading.hand_on(&ahead[..whole], work, console.out)?;

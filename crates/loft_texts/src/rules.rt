@@ -3,7 +3,7 @@
 use crate::fault::{Fault, RuleFault};
 use crate::text::wide;
 use csv::{ByteRecord, ByteRecordsIntoIter, ReaderBuilder};
-use std::alloc::Global;
+use std::alloc::{AllocError, Global};
 
 /// How bad it is that a rule matches.
 #[derive(Clone, Copy)]
@@ -21,6 +21,15 @@ pub struct Rule {
     pub pattern: String,
     pub message: String,
     pub severity: Severity,
+}
+
+/// The fields of a record that has a rule.
+#[derive(Clone, Copy)]
+struct Fields<'r> {
+    name: &'r str,
+    pattern: &'r str,
+    message: &'r str,
+    severity: Severity,
 }
 
 /// A field as text, empty where there is none; the fault where it is no text.
@@ -41,8 +50,8 @@ fn read_severity(field: &str, number: u64) -> Result<Severity, Fault> {
     }
 }
 
-/// The rule of a record: name, pattern, message, severity.
-fn read_rule(alloc: Global, record: &ByteRecord, number: u64) -> Result<Rule, Fault> {
+/// The fields of a record: name, pattern, message, severity.
+fn fields_of<'r>(record: &'r ByteRecord, number: u64) -> Result<Fields<'r>, Fault> {
     let name = text_field(record, 0, number)?;
     let pattern = text_field(record, 1, number)?;
     if name.is_empty() || pattern.is_empty() {
@@ -50,11 +59,21 @@ fn read_rule(alloc: Global, record: &ByteRecord, number: u64) -> Result<Rule, Fa
     }
     let message = text_field(record, 2, number)?;
     let severity = read_severity(text_field(record, 3, number)?, number)?;
-    Ok(Rule {
-        name: String::from_str(alloc, name)?,
-        pattern: String::from_str(alloc, pattern)?,
-        message: String::from_str(alloc, message)?,
+    Ok(Fields {
+        name,
+        pattern,
+        message,
         severity,
+    })
+}
+
+/// The rule that has these fields.
+fn rule_of(alloc: Global, fields: Fields<'_>) -> Result<Rule, AllocError> {
+    Ok(Rule {
+        name: String::from_str(alloc, fields.name)?,
+        pattern: String::from_str(alloc, fields.pattern)?,
+        message: String::from_str(alloc, fields.message)?,
+        severity: fields.severity,
     })
 }
 
@@ -71,25 +90,31 @@ fn number_after(rules: &[Rule]) -> u64 {
 /// Adds the rule of a record to those before it. A record before the first rule may name the columns.
 fn add_rule(alloc: Global, record: &ByteRecord, rules: &mut Vec<Rule>) -> Result<(), Fault> {
     if !rules.is_empty() || !is_header(record) {
-        let rule = read_rule(alloc, record, number_after(rules))?;
-        rules.push(rule)?;
+        let fields = fields_of(record, number_after(rules))?;
+        rules.push(rule_of(alloc, fields)?)?;
     }
     Ok(())
 }
 
-/// Adds the rules of records to those before them.
-fn add_rules(
+/// Adds the rule of a record to those before it, if it could be read.
+fn add_record(
     alloc: Global,
-    records: &mut ByteRecordsIntoIter<&[u8]>,
+    record: Result<ByteRecord, csv::Error>,
     rules: &mut Vec<Rule>,
 ) -> Result<(), Fault> {
-    for record in records {
-        match record {
-            Ok(record) => add_rule(alloc, &record, rules)?,
-            Err(_) => return Err(Fault::Rule(number_after(rules), RuleFault::Unreadable)),
-        }
+    match record {
+        Ok(record) => add_rule(alloc, &record, rules),
+        Err(_) => Err(Fault::Rule(number_after(rules), RuleFault::Unreadable)),
     }
-    Ok(())
+}
+
+/// The rules of records.
+fn rules_of(alloc: Global, records: &mut ByteRecordsIntoIter<&[u8]>) -> Result<Vec<Rule>, Fault> {
+    let mut rules = Vec::new(alloc);
+    for record in records {
+        add_record(alloc, record, &mut rules)?;
+    }
+    Ok(rules)
 }
 
 /// The rules of a list. A first record with `name` and `pattern` in it names the columns.
@@ -99,7 +124,5 @@ pub fn read_rules(alloc: Global, text: &[u8]) -> Result<Vec<Rule>, Fault> {
         .flexible(true)
         .from_reader(alloc, text);
     let mut records = reader.into_byte_records();
-    let mut rules = Vec::new(alloc);
-    add_rules(alloc, &mut records, &mut rules)?;
-    Ok(rules)
+    rules_of(alloc, &mut records)
 }
