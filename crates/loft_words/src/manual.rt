@@ -1,6 +1,6 @@
 //! The manual page, made of the words of help.
 
-use crate::words::{ABOUT, COMMANDS, Choice, Described, PATTERN_OPTIONS, STATUS};
+use crate::words::{ABOUT, Choice, Described, STATUS, commands, pattern_options};
 use std::io::{self, Write};
 
 /// Writes a text so that troff prints it as it is.
@@ -82,10 +82,10 @@ pub fn write_manual<W: Write>(out: &mut W) -> io::Result<()> {
     out.write_all(
         b".SH SYNOPSIS\n.B loft\n.I COMMAND\n[OPTION..] [ARGUMENT..] [FILE..]\n.SH COMMANDS\n",
     )?;
-    for described in &COMMANDS {
+    for described in commands() {
         write_command(described, out)?;
     }
     out.write_all(b".SH OPTIONS OF PATTERNS\nEach command has these.\n")?;
-    write_options(&PATTERN_OPTIONS, out)?;
+    write_options(pattern_options(), out)?;
     write_under(b".SH FILES AND STATUS\n", STATUS, out)
 }

@@ -1,7 +1,7 @@
 //! The words of a command line, as `clap` takes them.
 
 use crate::words::{
-    ABOUT, COMMANDS, Choice, Described, PATTERN_OPTIONS, STATUS, VERSION, Value, WHENS,
+    ABOUT, Choice, Described, STATUS, VERSION, Value, WHENS, commands, pattern_options,
 };
 use clap::builder::ValueParser;
 use clap::{Arg, ArgAction, Command};
@@ -67,13 +67,13 @@ fn command<'w>(alloc: Global, described: &'static Described) -> Result<Command<'
         .after_help(described.examples);
     let command = with_words(alloc, command, described)?;
     let command = with_options(alloc, command, described.options)?;
-    with_options(alloc, command, &PATTERN_OPTIONS)
+    with_options(alloc, command, pattern_options())
 }
 
 /// The program with its commands.
 fn with_commands<'w>(alloc: Global, program: Command<'w>) -> Result<Command<'w>, AllocError> {
     let mut program = program;
-    for described in &COMMANDS {
+    for described in commands() {
         program = program.subcommand(command(alloc, described)?)?;
     }
     Ok(program)

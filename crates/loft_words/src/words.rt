@@ -85,8 +85,8 @@ Status: 0 something was found, 1 nothing was, 2 there was a fault. A file with a
 /// The version.
 pub(crate) const VERSION: &str = "0.1.0";
 
-/// The options of patterns, which each command has.
-pub(crate) static PATTERN_OPTIONS: [Choice; 10] = [
+/// The rows of the options of patterns.
+static PATTERN_OPTIONS: [Choice; 10] = [
     row!("ignore-case", Some('i'), Nothing => "Let a character match in either case"),
     row!("line-anchors", Some('m'), Nothing => "Let ^ and $ hold at lines"),
     row!("dot-all", Some('s'), Nothing => "Let . take line feeds"),
@@ -138,8 +138,8 @@ const TOKENS: [Choice; 2] = [
 
 const CHECK: [Choice; 2] = [WHOLE, RULES];
 
-/// All commands.
-pub(crate) static COMMANDS: [Described; 7] = [
+/// The rows of all commands.
+static COMMANDS: [Described; 7] = [
     Described {
         name: "find",
         verb: Verb::Find,
@@ -221,9 +221,19 @@ Status 1 where a rule of severity error matched, else 0.",
     },
 ];
 
+/// All commands.
+pub(crate) fn commands() -> &'static [Described] {
+    &COMMANDS
+}
+
+/// The options of patterns, which each command has.
+pub(crate) fn pattern_options() -> &'static [Choice] {
+    &PATTERN_OPTIONS
+}
+
 /// What the command of this name does.
 pub(crate) fn verb_of(name: &str) -> Option<Verb> {
-    for described in &COMMANDS {
+    for described in commands() {
         if described.name == name {
             return Some(described.verb);
         }
