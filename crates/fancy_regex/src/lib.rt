@@ -39,6 +39,7 @@ pub use fancy_explain::Explain;
 pub use fancy_input::bytes::MatchBytes;
 pub use fancy_input::input::{Haystack, Input, Request};
 pub use fancy_input::matches::Match;
+pub use fancy_input::refusal::SearchRefusal;
 pub use fancy_input::regex_input::RegexInput;
 pub use fancy_input::span::Span;
 pub use fancy_input::work::Work;
