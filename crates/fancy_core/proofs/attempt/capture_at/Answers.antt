@@ -7,3 +7,6 @@ captures_found-requires g c = record {
       _ c.requires.inside c.requires.ends c.requires.suits (λ t. rw c.as_bytes-bytes.ensures.bytes at (c.as_bytes-bytes.ensures.utf8 t))
       (rw (c.in-Some.is, c.as_bytes-bytes.ensures.bytes) at c.in_ok-found.ensures.found);
 }
+
+pub returns-clause-allowed : goal.returns-clause-allowed
+returns-clause-allowed g c = rw c.as_bytes-bytes.ensures.bytes at c.in_ok-found.ensures.allowed
