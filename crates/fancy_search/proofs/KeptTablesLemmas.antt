@@ -160,8 +160,8 @@ noted_steps program haystack request place notes steps holds = rw (no_table note
 
 -- the steps that were held are taken out
 pub steps_taken : (program : Program) (held : Option (Box Cells Global)) (taken : Box Cells Global) → IfSome held (λ b. taken ≡ b) → HoldsSteps program held → KeepsSteps program taken.value
-steps_taken program (Some b) taken same holds = rw same holds
-steps_taken program None taken same holds = absurd holds
+steps_taken program (Some b) taken same holds = rw same holds.1
+steps_taken program None taken same holds = let never : false ≡ true = holds.0 in cc
 
 -- where none are held, they are not taken out
 pub noted_still : (program : Program) (haystack : List ℕ) (request : Request) (place : ℕ) (notes : AttemptNotes) → notes.cells ≡ None

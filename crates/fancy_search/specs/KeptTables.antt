@@ -1,7 +1,7 @@
 -- What is kept through a list of searches, or through attempts from position to position: the table of the runner and what it read of
 -- the line ends that close the haystack, the steps that the automaton remembers, or what the machine read of these line ends.
 use Rattle.std.specs.Global.{Box}
-use Rattle.std.specs.Prelude.{◌≡◌, ◌≤◌, ◌+◌, ℕ, Bool, true, false, List, Option, Result, Some, None, IfSome, IfOk, IfErr, option_map, nat_eq, if◌then◌else◌}
+use Rattle.std.specs.Prelude.{◌≡◌, ◌≤◌, ◌+◌, ℕ, Bool, true, false, List, Option, Result, Some, None, IfSome, IfOk, IfErr, is_some, option_map, nat_eq, if◌then◌else◌}
 use Rattle.std.specs.Option.{ForSome}
 use Rattle.fancy_tree.specs.declared.error.Error.{Error}
 use Rattle.fancy_input.specs.LastLines.{KnowsLastLines}
@@ -76,10 +76,9 @@ KeepsOn before after = (after ≡ Nothing → ⊥) × ForSome (table_kept before
 abbrev pub KeepsSteps : Program → Cells → Type 0
 KeepsSteps program cells = Remembers cells program.code × IsBounded cells
 
--- so are those that are held
+-- some are held, and these are
 abbrev pub HoldsSteps : Program → Option (Box Cells) → Type 0
-HoldsSteps program None = ⊥
-HoldsSteps program (Some held) = KeepsSteps program held.value
+HoldsSteps program held = (is_some held ≡ true) × IfSome held (λ cells. KeepsSteps program cells.value)
 
 -- What attempts found out is kept for those at `place` or later. It is the same whichever positions the request tries.
 abbrev pub KeepsNotes : Program → List ℕ → Request → ℕ → AttemptNotes → Type 0

@@ -1,4 +1,4 @@
-use Rattle.std.proofs.Common.{◌≡◌, ◌∙◌, ℕ, Option, None, Some, replicate, false}
+use Rattle.std.proofs.Common.{◌≡◌, ◌∙◌, ℕ, Option, None, Some, refl, replicate, false}
 use Rattle.std.specs.Box.{with_value}
 use Rattle.fancy_search.specs.declared.cache.AttemptNotes.{AttemptNotes}
 use Rattle.fancy_code.specs.declared.found.Found.{Found}
@@ -35,7 +35,7 @@ returns-clause-answer c =
 pub returns-clause-notes : goal.returns-clause-notes
 returns-clause-notes c =
     let notes : AttemptNotes = record { kept = c.follow-found.new.kept; notes = c.take_cells.new.self.notes; cells = Some (with_value c.in-Ok.cells c.follow-found.new.cells) } in
-    let kept = λ (place : ℕ). noted_steps c.args.self.now c.args.asked.now.haystack.now c.args.asked.now.request place notes c.follow-found.ensures.left c.follow-found.ensures.kept in
+    let kept = λ (place : ℕ). noted_steps c.args.self.now c.args.asked.now.haystack.now c.args.asked.now.request place notes c.follow-found.ensures.left (refl, c.follow-found.ensures.kept) in
     record {
       after = if_ok _ (λ (m : Option Found). KeepsNotes c.args.self.now c.args.asked.now.haystack.now c.args.asked.now.request (kept_from m c.args.position) notes) (λ m _. kept (kept_from m c.args.position)) c.follow-found.result c.follow-found.ensures.answer;
       dropped = if_err _ _ (λ e _. kept c.args.position) c.follow-found.result c.follow-found.ensures.refused;
