@@ -84,3 +84,6 @@ invariant_of-self-in_default-answer_from-clause-noted g c =
 
 pub invariant_of-self-2-clause-noted : goal.invariant_of-self-2-clause-noted
 invariant_of-self-2-clause-noted g c = rw c.take.ensures.after c.in-Some-answer_from.ensures.left
+
+pub answer_from-requires-clause-noted : goal.answer_from-requires-clause-noted
+answer_from-requires-clause-noted g c = rw (sym c.take.ensures.value ∙ c.in_default.is) at c.args.self.now.noted
