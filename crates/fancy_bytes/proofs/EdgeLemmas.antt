@@ -1,10 +1,10 @@
 -- Members of sets, found by going over the edges and over the numbers.
-use Rattle.std.proofs.Common.{◌≡◌, ℕ, zero, suc, ◌+◌, ◌-◌, ◌<◌, ◌≤◌, ◌==◌, ◌⊎◌, Bool, true, false, not, ◌&&◌, ◌||◌, nat_le, nat_lt, List, [], ◌∷◌, length, drop, get_or, refl, sym, ap, ap₂, ◌∙◌, arith, inl, inr, Some, eq-eqb, true≢false}
+use Rattle.std.proofs.Common.{◌≡◌, ℕ, zero, suc, ◌+◌, ◌-◌, ◌<◌, ◌≤◌, ◌==◌, ◌⊎◌, Bool, true, false, not, ◌&&◌, ◌||◌, nat_le, nat_lt, List, [], ◌∷◌, length, drop, get_or, refl, sym, ap, ap₂, ◌∙◌, arith, inl, inr, true≢false}
 use Rattle.std.proofs.lemmas.Bool.Decides.{nat_tests}
 use Rattle.std.proofs.lemmas.Bool.{cases_eq, cases_lt}
 use Rattle.fancy_tree.specs.declared.tree.Meaning.{Meaning}
 use Rattle.fancy_tree.specs.Sets.{has, differ, AreRising}
-use Rattle.fancy_bytes.specs.Items.{some_below, encoding, includes, is_item, is_in_each, is_in_all, one_member}
+use Rattle.fancy_bytes.specs.Items.{some_below, encoding, includes, is_item, is_in_each, is_in_all}
 use Rattle.fancy_bytes.proofs.BoolLemmas.{parts_of, or_assoc, or_nothing, and_assoc, and_nothing, and_never, both_hold, some_below_from, le_holds, le_test, le_fails}
 use Rattle.fancy_bytes.proofs.ItemLemmas.{none_below}
 
@@ -48,14 +48,6 @@ includes_step bs b i now next w lt adds before =
 
 pub includes_done : (bs : List ℕ) (b i : ℕ) (now w : Bool) → length bs ≤ i → (now || includes (drop i bs) b) ≡ w → now ≡ w
 includes_done bs b i now w le before = sym (or_nothing now) ∙ sym (ap (λ (x : List ℕ). now || includes x b) (drop_past bs i le)) ∙ before
-
-pub one_pair : (es : List ℕ) → length es ≡ 2 → get_or es 0 0 < get_or es 1 0 → get_or es 1 0 - get_or es 0 0 ≡ 1 → one_member es ≡ Some (get_or es 0 0)
-one_pair [] len lt one = absurd (omega arith)
-one_pair (e ∷ []) len lt one = absurd (omega arith)
-one_pair (e ∷ f ∷ []) len lt one =
-    let same : f ≡ suc e = omega arith in
-    let test : (f == suc e) ≡ true = eq-eqb f (suc e) same in rw test refl
-one_pair (e ∷ f ∷ g ∷ es) len lt one = absurd (omega arith)
 
 -- members between two numbers
 
@@ -110,14 +102,6 @@ no_number es first last le =
 pub one_between : (es : List ℕ) (first last c : ℕ) → first ≤ c → c < last → has es c ≡ true → true ≡ some_below last (λ c. nat_le first c && has es c)
 one_between es first last c from lt e =
     sym (some_below_from last (λ c. nat_le first c && has es c) c lt (both_hold (nat_le first c) (has es c) (grind (arith, nat_tests)) e))
-
--- one more edge that is no member, or does not stand between the numbers
-pub edge_passed : (es : List ℕ) (first last i : ℕ) → (first < get_or es i 0 → get_or es i 0 < last → has es (get_or es i 0) ≡ false) → NoEdgeIn es first last i → NoEdgeIn es first last (i + 1)
-edge_passed es first last i here before k lt =
-    elim (cases_eq k i) [
-      | inl same ↦ rw same here
-      | inr other ↦ before k (omega arith)
-    ]
 
 -- an edge that is not before the last number, and so none after it is
 pub no_edge_past : (es : List ℕ) (first last i : ℕ) → AreRising es → NoEdgeIn es first last i → last ≤ get_or es i 0 → NoEdgeIn es first last (length es)
@@ -179,10 +163,6 @@ part_reversed m es b i now w lt gt before =
 
 pub part_open : (m : Meaning) (es : List ℕ) (b i : ℕ) (now w : Bool) → i + 1 ≡ length es → (now && is_in_all m (drop i es) b) ≡ w → false ≡ w
 part_open m es b i now w end before = sym (and_never now) ∙ ap (λ x. now && x) (sym (all_one m es b i end)) ∙ before
-
-pub parts_done : (m : Meaning) (es : List ℕ) (b i : ℕ) (now w : Bool) → length es ≤ i → (now && is_in_all m (drop i es) b) ≡ w → now ≡ w
-parts_done m es b i now w le before =
-    sym (and_nothing now) ∙ sym (ap (λ (x : List ℕ). now && is_in_all m x b) (drop_past es i le)) ∙ before
 
 each_one : (m : Meaning) (n c b : ℕ) → is_in_each m (suc n) c b ≡ ((not (is_item m c) || includes (encoding m c) b) && is_in_each m n (suc c) b)
 unfolding is_in_each

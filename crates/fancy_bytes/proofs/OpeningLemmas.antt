@@ -1,12 +1,12 @@
 -- The opening of patterns one after another.
-use Rattle.std.proofs.Common.{◌≡◌, ℕ, ◌+◌, ◌<◌, ◌≤◌, Bool, true, false, ◌&&◌, List, [], ◌∷◌, ◌++◌, length, map, drop, get_or, if◌then◌else◌, refl, sym, ap, ap₂, ◌∙◌, append_assoc}
+use Rattle.std.proofs.Common.{◌≡◌, ℕ, ◌+◌, ◌<◌, Bool, true, false, ◌&&◌, List, [], ◌∷◌, ◌++◌, length, map, drop, get_or, if◌then◌else◌, refl, sym, ap, ap₂, ◌∙◌, append_assoc}
 use Rattle.std.proofs.lemmas.List.{append-nil}
 use Rattle.fancy_tree.specs.declared.tree.Tree.{Tree}
 use Rattle.fancy_tree.specs.declared.tree.Meaning.{Meaning}
 use Rattle.fancy_tree.specs.Pattern.{Pattern, in_sequence, in_choice, pattern_of}
 use Rattle.fancy_bytes.specs.Openings.{opening, is_literal, opening_of_row, are_literal}
 use Rattle.fancy_bytes.proofs.BoolLemmas.{and_nothing}
-use Rattle.fancy_bytes.proofs.ListLemmas.{next_part, no_part}
+use Rattle.fancy_bytes.proofs.ListLemmas.{next_part}
 
 or_nil : (b : Bool) → (xs : List ℕ) → xs ≡ xs ++ (if b then [] else [])
 or_nil true xs = sym (append-nil xs)
@@ -49,9 +49,3 @@ literal_step m ts i t was whole lt e is before =
     ap (λ (b : Bool). b && are_literal m (drop (i + 1) (map pattern_of ts))) is
     ∙ ap (are_literal m) (sym (next_part ts i t lt e))
     ∙ before
-
-pub row_end : (m : Meaning) (ts : List Tree) (i : ℕ) (now : List ℕ) → length ts ≤ i → now ++ opening_of_row m (drop i (map pattern_of ts)) ≡ now
-row_end m ts i now le = ap (λ (ps : List Pattern). now ++ opening_of_row m ps) (no_part ts i le) ∙ append-nil now
-
-pub literal_end : (m : Meaning) (ts : List Tree) (i : ℕ) → length ts ≤ i → are_literal m (drop i (map pattern_of ts)) ≡ true
-literal_end m ts i le = ap (are_literal m) (no_part ts i le)

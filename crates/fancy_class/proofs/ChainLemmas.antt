@@ -1,5 +1,5 @@
 -- Lemmas on operators, one after another.
-use Rattle.std.proofs.Common.{if◌then◌else◌, ◌≡◌, ℕ, ◌≤◌, Bool, true, false, not, ◌&&◌, ◌||◌, nat_le, List, [], ◌∷◌, ◌++◌, length, cond, refl, sym, ap, ◌∙◌, arith}
+use Rattle.std.proofs.Common.{if◌then◌else◌, ◌≡◌, ℕ, ◌≤◌, Bool, true, false, nat_le, List, [], ◌∷◌, ◌++◌, length, cond, refl, sym, ap, ◌∙◌, arith}
 use Rattle.std.proofs.lemmas.Bool.Decides.{nat_tests}
 use Rattle.fancy_tree.specs.Sets.{has, AreEdges, in_range}
 use Rattle.fancy_tree.specs.Members.{Members, members, edges_of, applied}
@@ -33,14 +33,6 @@ combine_all-at f g ((how, x) ∷ steps) c e = combine_all-at (λ d. applied how 
 pub combine_all-append : (f : Members) (xs ys : List (Operation × Members)) → combine_all f (xs ++ ys) ≡ combine_all (combine_all f xs) ys
 combine_all-append f [] ys = refl
 combine_all-append f ((how, x) ∷ xs) ys = combine_all-append (λ c. applied how (f c) (x c)) xs ys
-
--- the members that stay, and the numbers that become members
-pub kept_or_gained : (a k g : Bool) → ((a && k) || (g && not a)) ≡ (if a then k else g)
-kept_or_gained true true g = refl
-kept_or_gained true false true = refl
-kept_or_gained true false false = refl
-kept_or_gained false k true = refl
-kept_or_gained false k false = refl
 
 -- a set that was changed, number by number
 pub changed : (s : Set) (steps : List (Operation × Members)) (k g : Bool) (c : ℕ) → g ≡ combine_all none_of steps c → (nat_le c 0x10_FFFF ≡ true → k ≡ combine_all (λ d. true) steps c) →

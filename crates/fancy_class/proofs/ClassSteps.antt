@@ -1,5 +1,5 @@
 -- What the reader's loops and branches say of the grammar.
-use Rattle.std.proofs.Common.{◌≡◌, ℕ, suc, ◌+◌, Bool, true, false, Some, None, drop, refl, sym, ap, ◌∙◌, subst, arith, add-one, Result, Ok, Err}
+use Rattle.std.proofs.Common.{◌≡◌, ℕ, suc, ◌+◌, Bool, true, false, Some, None, drop, refl, sym, ap, ◌∙◌, subst, arith, add-one, Result, Err}
 use mathlib.Core.Path.{fun_ext}
 use Rattle.fancy_tree.specs.Text.{Text}
 use Rattle.fancy_class.specs.Words.{is_at}
@@ -12,7 +12,6 @@ use Rattle.fancy_class.specs.ClassViews.{RefusesClass, ClassGives}
 use Rattle.fancy_class.specs.Readings.{IsTheReading, HasNoReading}
 use Rattle.fancy_tree.specs.Members.{Members, members, both, applied}
 use Rattle.fancy_tree.specs.declared.operation.Operation.{Operation}
-use Rattle.fancy_tree.specs.declared.set.Set.{Set}
 use Rattle.fancy_tree.specs.declared.tree.Meaning.{Meaning}
 use Rattle.fancy_tree.proofs.Facts.{true_is_false, some_is_none, some_pair}
 
@@ -121,11 +120,6 @@ module _ {m : Meaning} {i : Bool} {k : ℕ} where
   pub no_nested : {p : Text} → starts_class p ≡ true → HasNoReading (ClassReading m i k) p → HasNoReading (OperandItemReading m i k) p
   no_nested e nothing u r (simple s f) = true_is_false (sym e ∙ s)
   no_nested e nothing u r (nested s c) = nothing u r c
-
-pub gives_nested : (m : Meaning) (i : Bool) (k : ℕ) (r : Result Set ClassRefusal) (p q : Text) → starts_class p ≡ true → ClassGives members (ClassReading m i k) r p q → ClassGives members (OperandItemReading m i k) r p q
-gives_nested m i k (Ok s) p q e h = nested_is e h
-gives_nested m i k (Err Memory) p q e h = tt
-gives_nested m i k (Err (Invalid kind)) p q e h = no_nested e h
 
 -- what is inside the brackets
 pub record Inside (m : Meaning) (i : Bool) (k : ℕ) (p : Text) (u : Members) (s : Text) : Type 0 where

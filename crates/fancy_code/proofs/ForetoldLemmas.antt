@@ -1,5 +1,5 @@
 -- What code foretells of the bytes at the first places of what it consumes.
-use Rattle.std.proofs.Common.{◌≡◌, ℕ, zero, suc, ◌+◌, ◌-◌, ◌<◌, ◌≤◌, ◌==◌, Bool, true, false, not, ◌&&◌, List, [], ◌∷◌, ◌++◌, length, drop, take, Option, Some, None, if◌then◌else◌, nat_le, inl, inr, refl, sym, ap, subst, ◌∙◌, arith, true≢false, slice_index, slice_set, get_or-drop, leb-true, eq-eqb, ne_eqb, replicate}
+use Rattle.std.proofs.Common.{◌≡◌, ℕ, zero, suc, ◌+◌, ◌-◌, ◌<◌, ◌≤◌, ◌==◌, Bool, true, false, not, ◌&&◌, ◌||◌, List, [], ◌∷◌, ◌++◌, length, drop, take, Option, Some, None, if◌then◌else◌, nat_le, inl, inr, refl, sym, ap, subst, ◌∙◌, arith, eqb-true, true≢false, slice_index, slice_get, slice_set, get_or-drop, leb-true, eq-eqb, ne_eqb, replicate}
 use Rattle.std.proofs.lemmas.List.{length-replicate, length-take-le, get_or-take, get_or_append_left}
 use Rattle.std.proofs.lemmas.Bool.{cases_lt}
 use Rattle.std.proofs.lemmas.Str.{length-encode, len_utf8_bounds}
@@ -7,12 +7,11 @@ use Rattle.std.specs.Prelude.{IfSome}
 use Rattle.fancy_tree.specs.declared.tree.Meaning.{Meaning}
 use Rattle.fancy_tree.specs.declared.tree.Meaning.TheVariants.{Unicode, Bytes, AsciiText}
 use Rattle.fancy_tree.specs.declared.tree.Assertion.{Assertion}
-use Rattle.fancy_tree.specs.declared.tree.Assertion.TheVariants.{TextStart}
+use Rattle.fancy_tree.specs.declared.tree.Assertion.TheVariants.{TextStart, LineStart}
 use Rattle.fancy_tree.specs.Sets.{has}
-use Rattle.fancy_bytes.specs.Items.{encoding, only}
+use Rattle.fancy_bytes.specs.Items.{encoding, is_item, only}
 use Rattle.fancy_bytes.specs.Sets.{ByteFlags, member}
-use Rattle.fancy_prefilter.specs.Windows.{StandsFrom}
-use Rattle.fancy_bytes.proofs.BoolLemmas.{parts_of}
+use Rattle.fancy_prefilter.specs.Windows.{StandsFrom, set_at}
 use Rattle.fancy_prefilter.specs.KeyTables.{NoneMayStand}
 use Rattle.fancy_code.specs.Branches.{AreBranches, Chooses, OpensTo, TestsTo}
 use Rattle.fancy_prefilter.specs.declared.branches.Branches.{Branches}
@@ -23,14 +22,16 @@ use Rattle.fancy_code.specs.Forward.{EachOutcome}
 use Rattle.fancy_code.specs.Instructions.{Instruction, Fail, Character, Member, Assert, Split, Open, Close}
 use Rattle.fancy_code.specs.Run.{Raw, Note, Stop, Sign, choice_opened, returned, fetched, Go, AllStops, before, join, onward, instr_at, act, run, erase, Foretells}
 use Rattle.fancy_code.specs.Compile.{IsCodeOf, depth}
-use Rattle.fancy_prefilter.specs.Rows.{Wider, HasFrom, AreBytesOf}
-use Rattle.fancy_code.specs.Foretold.{Foretold, AreForetold, IsAnchored}
+use Rattle.fancy_input.specs.Lines.{is_line_feed}
+use Rattle.fancy_prefilter.specs.NextOpening.{IsWithinLine}
+use Rattle.fancy_prefilter.specs.Rows.{Wider, HasEncoding, HasItems, HasNone}
+use Rattle.fancy_code.specs.Foretold.{Foretold, ForetoldPast, AreForetold, IsAnchored, StartsLines}
 use Rattle.fancy_code.specs.Search.{Query, answer_at, context_of, initial}
 use Rattle.fancy_code.proofs.BeginLemmas.{accepted_holds}
 use Rattle.fancy_code.proofs.OpenLemmas.{unit_wide}
 use Rattle.fancy_code.proofs.RunMore.{past_end}
 use Rattle.fancy_code.proofs.SearchLemmas.{is-no_answer}
-use Rattle.fancy_code.proofs.SeenLemmas.{unit_item, only_one}
+use Rattle.fancy_code.proofs.SeenLemmas.{unit_item, only_one, item_of}
 use Rattle.fancy_code.proofs.WholeCode.{program_gives}
 
 -- what each stop says
@@ -93,6 +94,7 @@ outcomes_told P (Stop q s v ∷ w) h = (h.0, outcomes_told P w h.1)
 pub record ItemAt (m : Meaning) (haystack : List ℕ) (test : ℕ → Bool) (p q : ℕ) : Type 0 where
   pub code : ℕ
   pub passes : test code ≡ true
+  pub item : is_item m code ≡ true
   pub rest : List ℕ
   pub bytes : drop p haystack ≡ encoding m code ++ rest
   pub ends : q ≡ p + length (encoding m code)
@@ -106,6 +108,7 @@ item_where m haystack test p q u true is passes e =
     record {
       code = u.code;
       passes = passes;
+      item = subst (λ (d : ℕ). is_item m d ≡ true) same (item_of m h.code h.scalar);
       rest = h.rest;
       bytes = h.bytes ∙ ap (λ (d : ℕ). encoding m d ++ h.rest) same;
       ends = sym end ∙ ap (λ (n : ℕ). p + n) (unit_wide m haystack p u is);
@@ -126,13 +129,14 @@ encoding_some Unicode c = omega (arith, length-encode c, (len_utf8_bounds c).0)
 encoding_some Bytes c = omega arith
 encoding_some AsciiText c = omega (arith, length-encode c, (len_utf8_bounds c).0)
 
+pub encoding_short : (m : Meaning) (c : ℕ) → length (encoding m c) ≤ 4
+encoding_short Unicode c = omega (arith, length-encode c, (len_utf8_bounds c).1)
+encoding_short Bytes c = omega arith
+encoding_short AsciiText c = omega (arith, length-encode c, (len_utf8_bounds c).1)
+
 -- a byte of an item
 item_byte : (haystack bytes rest : List ℕ) (p i : ℕ) → drop p haystack ≡ bytes ++ rest → i < length bytes → slice_index haystack (p + i) ≡ slice_index bytes i
 item_byte haystack bytes rest p i e lt = sym (get_or-drop p haystack i 0) ∙ ap (λ (l : List ℕ). slice_index l i) e ∙ get_or_append_left bytes rest 0 i lt
-
-off : (b : Bool) → not b ≡ true → b ≡ false
-off true e = absurd (true≢false (sym e))
-off false e = refl
 
 -- rows that have more
 
@@ -155,6 +159,15 @@ module _ (m : Meaning) (code : List Instruction) (from at : ℕ) (exact : Bool) 
       let b = stands j later (omega (arith, inside, w.shorter)) in
       (b.0, w.has j (slice_index x.haystack (p + j)) inside (bytes (p + j)) b.1))
       (run x limit code n at s v) (f x limit n s v o p meant bytes low same here)
+
+module _ (m : Meaning) (code : List Instruction) (from next : ℕ) (exact : Bool) (test : ℕ → Bool) (least bound : ℕ) (old new : List ByteFlags) (w : Wider old new) where
+  pub wider_past : ForetoldPast code m old from exact test least bound next → ForetoldPast code m new from exact test least bound next
+  wider_past f x limit n s v o p q meant bytes low same here past enough few within =
+      foretells_imply (StandsFrom old x.haystack limit o p) (StandsFrom new x.haystack limit o p)
+      (λ stands j later inside.
+      let b = stands j later (omega (arith, inside, w.shorter)) in
+      (b.0, w.has j (slice_index x.haystack (p + j)) inside (bytes (p + j)) b.1))
+      (run x limit code n next (moved_to s q) v) (f x limit n s v o p q meant bytes low same here past enough few within)
 
 module _ (m : Meaning) (code : List Instruction) (sets : List ByteFlags) where
   -- past the row nothing is told
@@ -207,50 +220,84 @@ module _ (m : Meaning) (code : List Instruction) (sets : List ByteFlags) where
       (join_told (StandsFrom sets x.haystack limit o p) (run x limit code n a s v) (run x limit code n b s v)
       (f x limit n s v o p meant bytes low same here) (g x limit n s v o p meant bytes low same here)))
 
-  module _ (from next : ℕ) (exact wide : Bool) (test : ℕ → Bool) (bytes : ByteFlags) (are : AreBytesOf m test bytes wide) (has_them : HasFrom sets from (exact && not wide) bytes)
-      (after : Foretold code m sets (from + 1) (exact && not wide) next) where
-    -- an item's bytes stand, and then those of what follows
-    item_told : (x : Context) (limit n : ℕ) (s : State) (v : List ℕ) (o p : ℕ) → x.meaning ≡ m → ((k : ℕ) → slice_index x.haystack k < 256)
-        → from ≤ o → (exact ≡ true → o ≡ from) → s.place ≡ p + o
-        → Foretells (StandsFrom sets x.haystack limit o p) (onward limit (run x limit code n) next s v (past_item x test s.place))
-    item_told x limit n s v o p meant small low same here =
-        onward_told (StandsFrom sets x.haystack limit o p) limit (run x limit code n) next s v (past_item x test s.place)
-        (λ q past within.
-        let h = subst (λ (k : Meaning). ItemAt k x.haystack test s.place q) meant (item_at x test s.place q past) in
-        let size : ℕ = length (encoding m h.code) in
-        let some : 0 < size = encoding_some m h.code in
-        let one : (exact && not wide) ≡ true → (o ≡ from) × (size ≡ 1) =
-        (λ e. let parts = parts_of exact (not wide) e in (same parts.0, are.one h.code h.passes (off wide parts.1))) in
-        foretells_imply (StandsFrom sets x.haystack limit (o + size) p) (StandsFrom sets x.haystack limit o p)
-        (λ stands j later inside.
-        elim (cases_lt j (o + size)) [
-          | inl lt ↦
-              let i : ℕ = j - o in
-              let there : s.place + i ≡ p + j = omega (arith, here, later) in
-              let byte : slice_index x.haystack (p + j) ≡ slice_index (encoding m h.code) i =
-              ap (slice_index x.haystack) (sym there) ∙ item_byte x.haystack (encoding m h.code) h.rest s.place i h.bytes (omega (arith, lt, later)) in (
-                omega (arith, here, within, h.ends, lt),
-                has_them j (slice_index x.haystack (p + j)) (omega (arith, low, later)) (λ e. omega (arith, (one e).0, (one e).1, lt, later)) inside (small (p + j))
-                    (ap (member bytes) byte ∙ are.has h.code i h.passes (omega (arith, lt, later)) (subst (λ (b : ℕ). b < 256) byte (small (p + j)))),
-              )
-          | inr ge ↦ stands j ge inside
-        ])
-        (run x limit code n next (moved_to s q) v)
-        (after x limit n (moved_to s q) v (o + size) p meant small (omega (arith, low, some)) (λ e. omega (arith, (one e).0, (one e).1)) (omega (arith, h.ends, here))))
+  -- past the row nothing is told
+  pub past_row : (from : ℕ) (exact : Bool) (test : ℕ → Bool) (least bound next : ℕ) → length sets ≤ from → ForetoldPast code m sets from exact test least bound next
+  past_row from exact test least bound next le x limit n s v o p q meant bytes low same here past enough few within =
+      foretells_all (StandsFrom sets x.haystack limit o p) (λ j later inside. absurd (omega (arith, le, low, later, inside))) (run x limit code n next (moved_to s q) v)
 
-    pub told_member : (at : ℕ) (edges : List ℕ) → instr_at code at ≡ Member edges next → test ≡ has edges → Foretold code m sets from exact at
-    told_member at edges is e =
-        told_by from at exact (Member edges next) is
-        (subst (λ (f : ℕ → Bool). (x : Context) (limit n : ℕ) (s : State) (v : List ℕ) (o p : ℕ) → x.meaning ≡ m → ((k : ℕ) → slice_index x.haystack k < 256)
-        → from ≤ o → (exact ≡ true → o ≡ from) → s.place ≡ p + o
-        → Foretells (StandsFrom sets x.haystack limit o p) (onward limit (run x limit code n) next s v (past_item x f s.place))) e item_told)
+  -- no item has so many bytes
+  pub past_none : (from : ℕ) (exact : Bool) (test : ℕ → Bool) (least most next : ℕ) → HasNone m test least most → ForetoldPast code m sets from exact test least (most + 1) next
+  past_none from exact test least most next none x limit n s v o p q meant bytes low same here past enough few within =
+      let h = subst (λ (k : Meaning). ItemAt k x.haystack test s.place q) meant (item_at x test s.place q past) in
+      absurd (none h.code h.passes h.item (omega (arith, h.ends, enough)) (omega (arith, h.ends, few)))
 
-    pub told_character : (at c : ℕ) → instr_at code at ≡ Character c next → test ≡ (λ d. d == c) → Foretold code m sets from exact at
-    told_character at c is e =
-        told_by from at exact (Character c next) is
-        (subst (λ (f : ℕ → Bool). (x : Context) (limit n : ℕ) (s : State) (v : List ℕ) (o p : ℕ) → x.meaning ≡ m → ((k : ℕ) → slice_index x.haystack k < 256)
-        → from ≤ o → (exact ≡ true → o ≡ from) → s.place ≡ p + o
-        → Foretells (StandsFrom sets x.haystack limit o p) (onward limit (run x limit code n) next s v (past_item x f s.place))) e item_told)
+  -- an item's bytes stand, and then those of what follows
+  pub past_items : (from : ℕ) (exact : Bool) (test : ℕ → Bool) (least most next after : ℕ) (still : Bool) → HasItems sets from exact m test least most
+      → after ≡ from + least → (still ≡ true → (exact ≡ true) × (least ≡ most)) → (exact ≡ true → least ≡ most → still ≡ true)
+      → Foretold code m sets after still next → ForetoldPast code m sets from exact test least (most + 1) next
+  past_items from exact test least most next after still has_them there tells stays f x limit n s v o p q meant small low same here past enough few within =
+      let h = subst (λ (k : Meaning). ItemAt k x.haystack test s.place q) meant (item_at x test s.place q past) in
+      let size : ℕ = length (encoding m h.code) in
+      let more : least ≤ size = omega (arith, h.ends, enough) in
+      let less : size ≤ most = omega (arith, h.ends, few) in
+      foretells_imply (StandsFrom sets x.haystack limit (o + size) p) (StandsFrom sets x.haystack limit o p)
+      (λ stands j later inside.
+      elim (cases_lt j (o + size)) [
+        | inl lt ↦
+            let i : ℕ = j - o in
+            let place : s.place + i ≡ p + j = omega (arith, here, later) in
+            let byte : slice_index x.haystack (p + j) ≡ slice_index (encoding m h.code) i =
+            ap (slice_index x.haystack) (sym place) ∙ item_byte x.haystack (encoding m h.code) h.rest s.place i h.bytes (omega (arith, lt, later)) in (
+              omega (arith, here, within, h.ends, lt),
+              ap (member (set_at sets j)) byte
+                  ∙ has_them h.code h.passes h.item more less i j (omega (arith, lt, later)) (subst (λ (b : ℕ). b < 256) byte (small (p + j))) (omega (arith, low, later))
+                  (λ e. omega (arith, same e, later)) inside,
+            )
+        | inr ge ↦ stands j ge inside
+      ])
+      (run x limit code n next (moved_to s q) v)
+      (f x limit n (moved_to s q) v (o + size) p meant small (omega (arith, there, low, more))
+      (λ e. let both = tells e in omega (arith, there, same both.0, both.1, more, less)) (omega (arith, h.ends, here)))
+
+  -- of all items of up to four bytes
+  all_past : (from next : ℕ) (exact : Bool) (test : ℕ → Bool) → ForetoldPast code m sets from exact test 1 5 next
+      → (x : Context) (limit n : ℕ) (s : State) (v : List ℕ) (o p : ℕ) → x.meaning ≡ m → ((k : ℕ) → slice_index x.haystack k < 256)
+      → from ≤ o → (exact ≡ true → o ≡ from) → s.place ≡ p + o
+      → Foretells (StandsFrom sets x.haystack limit o p) (onward limit (run x limit code n) next s v (past_item x test s.place))
+  all_past from next exact test f x limit n s v o p meant small low same here =
+      onward_told (StandsFrom sets x.haystack limit o p) limit (run x limit code n) next s v (past_item x test s.place)
+      (λ q past within.
+      let h = item_at x test s.place q past in
+      f x limit n s v o p q meant small low same here past (omega (arith, h.ends, encoding_some x.meaning h.code)) (omega (arith, h.ends, encoding_short x.meaning h.code)) within)
+
+  pub told_member : (from at next : ℕ) (exact : Bool) (edges : List ℕ) → instr_at code at ≡ Member edges next → ForetoldPast code m sets from exact (has edges) 1 5 next
+      → Foretold code m sets from exact at
+  told_member from at next exact edges is f = told_by from at exact (Member edges next) is (all_past from next exact (has edges) f)
+
+  pub told_character : (from at next : ℕ) (exact : Bool) (c : ℕ) → instr_at code at ≡ Character c next → ForetoldPast code m sets from exact (λ d. d == c) 1 5 next
+      → Foretold code m sets from exact at
+  told_character from at next exact c is f = told_by from at exact (Character c next) is (all_past from next exact (λ d. d == c) f)
+
+  -- a character has as many bytes as it has
+  pub past_character : (from next after : ℕ) (exact : Bool) (c : ℕ) → HasEncoding sets from exact (encoding m c) → after ≡ from + length (encoding m c)
+      → Foretold code m sets after exact next → ForetoldPast code m sets from exact (λ d. d == c) 1 5 next
+  past_character from next after exact c has_them there f x limit n s v o p q meant small low same here past enough few within =
+      let size : ℕ = length (encoding m c) in
+      let h = subst (λ (k : Meaning). ItemAt k x.haystack (λ d. d == c) s.place q) meant (item_at x (λ d. d == c) s.place q past) in
+      let is : h.code ≡ c = eqb-true h.code c h.passes in
+      let wide : length (encoding m h.code) ≡ size = ap (λ (d : ℕ). length (encoding m d)) is in
+      past_items from exact (λ d. d == c) size size next after exact
+      (λ d passes item more less. subst (λ (e : ℕ). HasEncoding sets from exact (encoding m e)) (sym (eqb-true d c passes)) has_them)
+      there (λ e. (e, refl)) (λ e one. e) f x limit n s v o p q meant small low same here past (omega (arith, h.ends, wide)) (omega (arith, h.ends, wide)) within
+
+  -- two numbers of bytes after one another
+  pub past_joined : (from next : ℕ) (exact : Bool) (test : ℕ → Bool) (least bound end : ℕ) → ForetoldPast code m sets from exact test least bound next
+      → ForetoldPast code m sets from exact test bound end next → ForetoldPast code m sets from exact test least end next
+  past_joined from next exact test least bound end f g x limit n s v o p q meant small low same here past enough few within =
+      elim (cases_lt q (s.place + bound)) [
+        | inl lt ↦ f x limit n s v o p q meant small low same here past enough lt within
+        | inr ge ↦ g x limit n s v o p q meant small low same here past ge few within
+      ]
 
 -- from the first instruction on
 pub start_told : (code : Code) (sets : List ByteFlags) → Foretold (instrs_of code) code.meaning sets 0 true code.start → AreForetold sets code
@@ -273,10 +320,10 @@ module _ (q : Query) (code : Code) (is : IsCodeOf q.sought.pattern code) (meant 
       none_told (StandsFrom sets q.haystack q.request.range_end 0 p) p le
       (f (context_of q) q.request.range_end (depth (length q.haystack) q.sought.pattern + 1) (initial q p) (replicate code.groups 0) meant bytes) lacks
 
-  -- past the text's start, where each way goes on there alone
-  pub none_anchored : IsAnchored (instrs_of code) code.start → (p : ℕ) → p ≤ q.request.range_end → 0 < p → answer_at q p ≡ None
-  none_anchored f p le later =
-      none_told ⊥ p le (f (context_of q) q.request.range_end (depth (length q.haystack) q.sought.pattern + 1) (initial q p) (replicate code.groups 0) later) (λ h. h)
+  -- where an assertion does not hold, and each way goes on only where it does
+  pub none_anchored : (anchor : Assertion) → IsAnchored (instrs_of code) anchor code.start → (p : ℕ) → p ≤ q.request.range_end → holds (context_of q) anchor p ≡ false → answer_at q p ≡ None
+  none_anchored anchor f p le never =
+      none_told ⊥ p le (f (context_of q) q.request.range_end (depth (length q.haystack) q.sought.pattern + 1) (initial q p) (replicate code.groups 0) never) (λ h. h)
 
 -- where no alternative may match that the code opens with, no way of it stops
 
@@ -325,51 +372,70 @@ module _ (q : Query) (code : Code) (is : IsCodeOf q.sought.pattern code) (meant 
       (depth (length q.haystack) q.sought.pattern + 1) (replicate code.groups 0))
       (λ h. h)
 
--- code that goes on at the text's start alone
+-- the text's start is not past it
+pub start_fails : (x : Context) (p : ℕ) → 0 < p → holds x TextStart p ≡ false
+unfolding holds
+start_fails x p never = ap (λ (b : Bool). b && not x.start_text_off) (ne_eqb p 0 (λ e. omega (arith, e, never)))
 
-module _ (code : List Instruction) where
+-- no line starts where no line feed stands before
+
+no_feed : (l : List ℕ) (q : ℕ) → (slice_index l q ≡ 10 → ⊥) → is_line_feed (slice_get l q) ≡ false
+no_feed [] q other = refl
+no_feed (b ∷ l) zero other = ne_eqb b 10 other
+no_feed (b ∷ l) (suc q) other = no_feed l q other
+
+line_fails : (x : Context) (q : ℕ) → (slice_index x.haystack q ≡ 10 → ⊥) → holds x LineStart (suc q) ≡ false
+unfolding holds
+line_fails x q other = ap (λ (b : Bool). b || is_line_feed (slice_get x.haystack q)) (ne_eqb (suc q) 0 (λ e. omega (arith, e))) ∙ no_feed x.haystack q other
+
+pub within_line : (x : Context) (code : List Instruction) (start : ℕ) (o : Option ByteFlags) → IfSome o (λ set. StartsLines set code start) → (p : ℕ) → IsWithinLine o x.haystack p
+    → IsAnchored code LineStart start × (holds x LineStart p ≡ false)
+within_line x code start None told p within = absurd within
+within_line x code start (Some set) told zero within = absurd within
+within_line x code start (Some set) told (suc q) within =
+    (told.1, line_fails x q (λ e. true≢false (sym told.0 ∙ sym (ap (member set) e) ∙ within)))
+
+-- code that goes on only where an assertion holds
+
+module _ (code : List Instruction) (anchor : Assertion) where
   abbrev AnchoredBy : ℕ → Instruction → Type 0
   AnchoredBy at i =
-      (x : Context) (limit n : ℕ) (s : State) (v : List ℕ) → 0 < s.place → Foretells ⊥ (act x limit at i (run x limit code n) (run x (length x.haystack) code n) s v)
+      (x : Context) (limit n : ℕ) (s : State) (v : List ℕ) → holds x anchor s.place ≡ false → Foretells ⊥ (act x limit at i (run x limit code n) (run x (length x.haystack) code n) s v)
 
-  anchored_by : (at : ℕ) (i : Instruction) → instr_at code at ≡ i → AnchoredBy at i → IsAnchored code at
-  anchored_by at i is f x limit zero s v later = tt
-  anchored_by at i is f x limit (suc n) s v later =
+  anchored_by : (at : ℕ) (i : Instruction) → instr_at code at ≡ i → AnchoredBy at i → IsAnchored code anchor at
+  anchored_by at i is f x limit zero s v never = tt
+  anchored_by at i is f x limit (suc n) s v never =
       before_told ⊥ fetched (act x limit at (instr_at code at) (run x limit code n) (run x (length x.haystack) code n) s v)
-      (subst (λ (j : Instruction). Foretells ⊥ (act x limit at j (run x limit code n) (run x (length x.haystack) code n) s v)) (sym is) (f x limit n s v later))
+      (subst (λ (j : Instruction). Foretells ⊥ (act x limit at j (run x limit code n) (run x (length x.haystack) code n) s v)) (sym is) (f x limit n s v never))
 
-  pub anchored_fail : (at : ℕ) → instr_at code at ≡ Fail → IsAnchored code at
-  anchored_fail at is = anchored_by at Fail is (λ x limit n s v later. tt)
+  pub anchored_fail : (at : ℕ) → instr_at code at ≡ Fail → IsAnchored code anchor at
+  anchored_fail at is = anchored_by at Fail is (λ x limit n s v never. tt)
 
-  pub anchored_nowhere : (at : ℕ) → length code ≤ at → IsAnchored code at
+  pub anchored_nowhere : (at : ℕ) → length code ≤ at → IsAnchored code anchor at
   anchored_nowhere at le = anchored_fail at (past_end code at le)
 
-  start_fails : (x : Context) (p : ℕ) → 0 < p → holds x TextStart p ≡ false
-  unfolding holds
-  start_fails x p later = ap (λ (b : Bool). b && not x.start_text_off) (ne_eqb p 0 (λ e. omega (arith, e, later)))
-
-  pub anchored_start : (at next : ℕ) → instr_at code at ≡ Assert TextStart next → IsAnchored code at
+  pub anchored_start : (at next : ℕ) → instr_at code at ≡ Assert anchor next → IsAnchored code anchor at
   anchored_start at next is =
-      anchored_by at (Assert TextStart next) is
-      (λ x limit n s v later. subst (λ (b : Bool). Foretells ⊥ (if b then (run x limit code n next s v) else (Some []))) (sym (start_fails x s.place later)) tt)
+      anchored_by at (Assert anchor next) is
+      (λ x limit n s v never. subst (λ (b : Bool). Foretells ⊥ (if b then (run x limit code n next s v) else (Some []))) (sym never) tt)
 
-  pub anchored_assert : (at : ℕ) (a : Assertion) (next : ℕ) → instr_at code at ≡ Assert a next → IsAnchored code next → IsAnchored code at
+  pub anchored_assert : (at : ℕ) (a : Assertion) (next : ℕ) → instr_at code at ≡ Assert a next → IsAnchored code anchor next → IsAnchored code anchor at
   anchored_assert at a next is f =
-      anchored_by at (Assert a next) is (λ x limit n s v later. if_told ⊥ (holds x a s.place) (run x limit code n next s v) (f x limit n s v later))
+      anchored_by at (Assert a next) is (λ x limit n s v never. if_told ⊥ (holds x a s.place) (run x limit code n next s v) (f x limit n s v never))
 
-  pub anchored_open : (at group next : ℕ) → instr_at code at ≡ Open group next → IsAnchored code next → IsAnchored code at
-  anchored_open at group next is f = anchored_by at (Open group next) is (λ x limit n s v later. f x limit n s (slice_set v group s.place) later)
+  pub anchored_open : (at group next : ℕ) → instr_at code at ≡ Open group next → IsAnchored code anchor next → IsAnchored code anchor at
+  anchored_open at group next is f = anchored_by at (Open group next) is (λ x limit n s v never. f x limit n s (slice_set v group s.place) never)
 
-  pub anchored_close : (at group next : ℕ) → instr_at code at ≡ Close group next → IsAnchored code next → IsAnchored code at
+  pub anchored_close : (at group next : ℕ) → instr_at code at ≡ Close group next → IsAnchored code anchor next → IsAnchored code anchor at
   anchored_close at group next is f =
-      anchored_by at (Close group next) is (λ x limit n s v later. f x limit n (with_capture s group (slice_index v group)) v later)
+      anchored_by at (Close group next) is (λ x limit n s v never. f x limit n (with_capture s group (slice_index v group)) v never)
 
-  pub anchored_split : (at a b : ℕ) → instr_at code at ≡ Split a b → IsAnchored code a → IsAnchored code b → IsAnchored code at
+  pub anchored_split : (at a b : ℕ) → instr_at code at ≡ Split a b → IsAnchored code anchor a → IsAnchored code anchor b → IsAnchored code anchor at
   anchored_split at a b is f g =
       anchored_by at (Split a b) is
-      (λ x limit n s v later.
+      (λ x limit n s v never.
       before_told ⊥ choice_opened (join (run x limit code n a s v) (run x limit code n b s v))
-      (join_told ⊥ (run x limit code n a s v) (run x limit code n b s v) (f x limit n s v later) (g x limit n s v later)))
+      (join_told ⊥ (run x limit code n a s v) (run x limit code n b s v) (f x limit n s v never) (g x limit n s v never)))
 
 pub some_foretold : (code : Code) (o : Option (List ByteFlags)) (row : List ByteFlags) → IfSome o (λ r. r ≡ row) → AreForetold row code → IfSome o (λ sets. AreForetold sets code)
 some_foretold code None row same told = tt

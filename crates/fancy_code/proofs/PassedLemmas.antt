@@ -2,7 +2,8 @@
 use Rattle.std.proofs.Common.{◌≡◌, ℕ, ◌+◌, ◌-◌, ◌<◌, ◌≤◌, List, length, None, sym, subst, arith, slice_index}
 use Rattle.std.specs.Prelude.{IfSome}
 use Rattle.fancy_bytes.specs.Openings.{opening, StandsBefore}
-use Rattle.fancy_prefilter.specs.NextOpening.{LacksOpening, StartsNot, by_byte, by_start, by_opening}
+use Rattle.fancy_tree.specs.declared.tree.Assertion.TheVariants.{TextStart, LineStart}
+use Rattle.fancy_prefilter.specs.NextOpening.{LacksOpening, StartsNot, by_byte, by_start, by_line, by_opening}
 use Rattle.fancy_prefilter.specs.Prefilters.{text_in, window_in, branches_in}
 use Rattle.fancy_prefilter.specs.declared.prefilter.Opening.{Opening}
 use Rattle.fancy_prefilter.specs.declared.prefilter.Opening.TheVariants.{Untold, Text, Window, Words}
@@ -11,8 +12,8 @@ use Rattle.fancy_code.specs.Branches.{AreBranches}
 use Rattle.fancy_code.specs.Code.{instrs_of}
 use Rattle.fancy_code.specs.Compile.{IsCodeOf}
 use Rattle.fancy_code.specs.Foretold.{AreForetold}
-use Rattle.fancy_code.specs.Search.{Query, answer_at, answer_from}
-use Rattle.fancy_code.proofs.ForetoldLemmas.{none_foretold, none_anchored, none_branched}
+use Rattle.fancy_code.specs.Search.{Query, answer_at, answer_from, context_of}
+use Rattle.fancy_code.proofs.ForetoldLemmas.{none_foretold, none_anchored, none_branched, start_fails, within_line}
 use Rattle.fancy_code.proofs.OpenLemmas.{opening_stands}
 use Rattle.fancy_code.proofs.SearchLemmas.{is-no_answer}
 use Rattle.fancy_code.proofs.SkipLemmas.{skip_none, none_starts}
@@ -33,7 +34,10 @@ module _ (q : Query) (code : Code) (is : IsCodeOf q.sought.pattern code) (meant 
 
   starts_not : (p : ℕ) → p ≤ q.request.range_end → StartsNot code.prefilter q.haystack q.request.range_end p → answer_at q p ≡ None
   starts_not p le (by_byte never) = none_starts q code.prefilter.starts (rw meant is.starts) bytes p never
-  starts_not p le (by_start only past) = none_anchored q code is meant inside (is.anchored only) p le past
+  starts_not p le (by_start only past) = none_anchored q code is meant inside TextStart (is.anchored only) p le (start_fails (context_of q) p past)
+  starts_not p le (by_line within) =
+      let line = within_line (context_of q) (instrs_of code) code.start code.prefilter.lines is.lines p within in
+      none_anchored q code is meant inside LineStart line.0 p le line.1
   starts_not p le (by_opening lacks) = none_opens code.prefilter.opening is.opens is.foretold is.branched p le lacks
 
   -- positions where no match starts may be passed over

@@ -162,7 +162,7 @@ one_stands m haystack (x ∷ y ∷ []) p b h e =
     ]
 one_stands m haystack (x ∷ y ∷ z ∷ zs) p b h e = cc
 
-item_of : (m : Meaning) (c : ℕ) → (m ≡ Bytes) ⊎ (is_scalar c ≡ true) → is_item m c ≡ true
+pub item_of : (m : Meaning) (c : ℕ) → (m ≡ Bytes) ⊎ (is_scalar c ≡ true) → is_item m c ≡ true
 item_of Unicode c h = elim h [ inl e ↦ cc | inr e ↦ e ]
 item_of Bytes c h = refl
 item_of AsciiText c h = elim h [ inl e ↦ cc | inr e ↦ e ]

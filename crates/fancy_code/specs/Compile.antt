@@ -17,7 +17,8 @@ use Rattle.fancy_code.specs.Easy.{is_easy}
 use Rattle.fancy_code.specs.Code.{instrs_of}
 use Rattle.fancy_code.specs.Branches.{AreBranches}
 use Rattle.fancy_prefilter.specs.Prefilters.{text_in, window_in, branches_in}
-use Rattle.fancy_code.specs.Foretold.{AreForetold, IsAnchored}
+use Rattle.fancy_tree.specs.declared.tree.Assertion.TheVariants.{TextStart}
+use Rattle.fancy_code.specs.Foretold.{AreForetold, IsAnchored, StartsLines}
 use Rattle.fancy_code.specs.Run.{instr_at}
 
 -- the instruction stands at q
@@ -254,7 +255,8 @@ pub record IsCodeOf (p : Pattern) (code : Code) : Type 0 where
   pub starts : AreStartBytes code.meaning p code.prefilter.starts
   pub opens : IfSome (text_in code.prefilter.opening) (λ text. text ≡ opening code.meaning p)
   pub foretold : IfSome (window_in code.prefilter.opening) (λ sets. AreForetold sets code)
-  pub anchored : code.prefilter.only_at_start ≡ true → IsAnchored (instrs_of code) code.start
+  pub anchored : code.prefilter.only_at_start ≡ true → IsAnchored (instrs_of code) TextStart code.start
+  pub lines : IfSome code.prefilter.lines (λ set. StartsLines set (instrs_of code) code.start)
   pub branched : HasBranches code
 
 -- An instruction that reads neither captures nor where groups began, and that ends no way early.

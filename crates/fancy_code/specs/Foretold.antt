@@ -1,11 +1,13 @@
 -- Which bytes stand at the first places of what code consumes from an instruction on.
-use Rattle.std.specs.Prelude.{◌≡◌, ℕ, ◌+◌, ◌<◌, ◌≤◌, Bool, true, List, length, Some, slice_get, slice_index}
+use Rattle.std.specs.Prelude.{◌≡◌, ℕ, ◌+◌, ◌<◌, ◌≤◌, Bool, true, false, List, length, Some, slice_get, slice_index}
 use Rattle.std.specs.Global.{Vec}
+use Rattle.fancy_tree.specs.declared.tree.Assertion.{Assertion}
+use Rattle.fancy_tree.specs.declared.tree.Assertion.TheVariants.{LineStart}
 use Rattle.fancy_tree.specs.declared.tree.Meaning.{Meaning}
-use Rattle.fancy_bytes.specs.Sets.{ByteFlags}
+use Rattle.fancy_bytes.specs.Sets.{ByteFlags, member}
 use Rattle.fancy_prefilter.specs.Windows.{StandsFrom}
 use Rattle.fancy_code.specs.Code.{instrs_of}
-use Rattle.fancy_code.specs.Context.{Context, State}
+use Rattle.fancy_code.specs.Context.{Context, State, holds, moved_to, past_item}
 use Rattle.fancy_code.specs.Instructions.{Instruction}
 use Rattle.fancy_code.specs.Run.{Foretells, run}
 use Rattle.fancy_code.specs.declared.code.Code.{Code}
@@ -17,15 +19,27 @@ Foretold code m sets from exact at =
     → from ≤ o → (exact ≡ true → o ≡ from) → s.place ≡ p + o
     → Foretells (StandsFrom sets x.haystack limit o p) (run x limit code n at s v)
 
+-- The same where the code reads an item that passes a test and has so many bytes, at least and below a bound, before it goes on.
+abbrev pub ForetoldPast : List Instruction → Meaning → List ByteFlags → ℕ → Bool → (ℕ → Bool) → ℕ → ℕ → ℕ → Type 0
+ForetoldPast code m sets from exact test least bound next =
+    (x : Context) (limit n : ℕ) (s : State) (v : List ℕ) (o p q : ℕ) → x.meaning ≡ m → ((k : ℕ) → slice_index x.haystack k < 256)
+    → from ≤ o → (exact ≡ true → o ≡ from) → s.place ≡ p + o
+    → past_item x test s.place ≡ Some q → s.place + least ≤ q → q < s.place + bound → q ≤ limit
+    → Foretells (StandsFrom sets x.haystack limit o p) (run x limit code n next (moved_to s q) v)
+
 -- Where a way of the code stops, a byte of each set stands in the window that begins where it was begun.
 abbrev pub AreForetold : List ByteFlags → Code → Type 0
 AreForetold sets code =
     (x : Context) (limit n : ℕ) (s : State) (v : List ℕ) → x.meaning ≡ code.meaning → ((k : ℕ) → slice_index x.haystack k < 256)
     → Foretells (StandsFrom sets x.haystack limit 0 s.place) (run x limit (instrs_of code) n code.start s v)
 
--- The code goes on from an instruction at the text's start alone: at no other place does a way stop from there.
-abbrev pub IsAnchored : List Instruction → ℕ → Type 0
-IsAnchored code at = (x : Context) (limit n : ℕ) (s : State) (v : List ℕ) → 0 < s.place → Foretells ⊥ (run x limit code n at s v)
+-- The code goes on from an instruction only where an assertion holds: at no other place does a way stop from there.
+abbrev pub IsAnchored : List Instruction → Assertion → ℕ → Type 0
+IsAnchored code anchor at = (x : Context) (limit n : ℕ) (s : State) (v : List ℕ) → holds x anchor s.place ≡ false → Foretells ⊥ (run x limit code n at s v)
+
+-- the code goes on from an instruction at line starts alone, and the set has line feeds
+abbrev pub StartsLines : ByteFlags → List Instruction → ℕ → Type 0
+StartsLines set code start = (member set 10 ≡ true) × IsAnchored code LineStart start
 
 -- one row for each of these instructions: the sets of the bytes at the first places of what is consumed from it on
 pub record AreRows (code : List Instruction) (m : Meaning) (heads : List ℕ) (rows : List (Vec ByteFlags)) : Type 0 where

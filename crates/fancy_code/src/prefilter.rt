@@ -1,20 +1,26 @@
-//! Where a match may start, by the code of the pattern: at the text's start alone, or where some bytes stand at its first places.
+//! Where a match may start, by the code of the pattern: at the text's start or at line starts alone, or where some bytes stand at its
+//! first places.
 
-ghost use Rattle.std.specs.Prelude.{◌≡◌, ◌&&◌, not, ◌<◌, ◌+◌, true, length, IfOk, IfSome};
+ghost use Rattle.std.specs.Prelude.{◌≡◌, ◌==◌, ◌<◌, ◌≤◌, ◌+◌, true, length, IfOk, IfSome};
+ghost use Rattle.fancy_tree.specs.Members.{edges_of};
 ghost use Rattle.fancy_tree.specs.Pattern.{Pattern};
-ghost use Rattle.fancy_prefilter.specs.Rows.{HasFrom, Wider};
+ghost use Rattle.fancy_tree.specs.Sets.{has};
+ghost use Rattle.fancy_bytes.specs.Sets.{member};
+ghost use Rattle.fancy_prefilter.specs.Rows.{Wider};
 ghost use Rattle.fancy_code.specs.Code.{instrs_of};
 ghost use Rattle.fancy_code.specs.Compile.{IsCodeOf};
-ghost use Rattle.fancy_code.specs.Foretold.{AreForetold, Foretold, IsAnchored};
+ghost use Rattle.fancy_code.specs.Foretold.{AreForetold, Foretold, ForetoldPast, IsAnchored};
 
 use crate::branching::branches_of;
 use crate::code::{Code, Instr};
 use fancy_bytes::byte_set::ByteSet;
-use fancy_prefilter::items::{Item, item_of_character, item_of_set};
+use fancy_prefilter::items::{Sizes, add_character, add_members, has_size, is_small, size_of};
 use fancy_prefilter::prefilter::Opening;
-use fancy_prefilter::rows::{add_bytes, are_telling, empty_sets};
+use fancy_prefilter::rows::{are_telling, empty_sets};
+use fancy_prefilter::scan::Scan;
 use fancy_prefilter::window::Window;
-use fancy_tree::tree::Assertion;
+use fancy_tree::char_set::CharSet;
+use fancy_tree::tree::{Assertion, Meaning};
 use std::alloc::{AllocError, Global};
 
 /// At how many places bytes are told at most.
@@ -35,45 +41,84 @@ struct Spot {
     from: usize,
     /// There are no more than these.
     exact: bool,
+    /// How many instructions may still be followed one after another.
+    deep: usize,
 }
 
-/// Whether it is known how many places lie before what follows an item, where it is told whether that is known before it.
-fn stays_exact(exact: bool, wide: bool) -> bool
-    ensures { result ≡ (exact && not wide) }
-{
-    exact && !wide
-}
-
-/// Adds the bytes of an item, and then what may stand after it, where the code goes on at the spot's instruction.
+/// Adds the members of a set that have so many bytes, and then what may stand after them, where the code goes on at the spot's
+/// instruction.
 #[cycle(collect)]
-fn collect_item(
+fn collect_sizes(
     code: &Code,
     spot: Spot,
-    item: Item,
-    deep: usize,
+    set: &CharSet,
+    sizes: Sizes,
     sets: &mut Vec<ByteSet>,
     left: &mut usize,
 )
-    requires inside { spot.from < length sets.old.items }
+    requires short { sizes.least ≤ 4 }
     ensures wider { Wider sets.old.items sets.new.items }
-    ensures has { HasFrom sets.new.items spot.from (spot.exact && not item.wide) item.bytes }
-    ensures told { Foretold (instrs_of code.now) code.now.meaning sets.new.items (spot.from + 1)
-        (spot.exact && not item.wide) spot.at }
+    ensures told { ForetoldPast (instrs_of code.now) code.now.meaning sets.new.items spot.from spot.exact
+        (has (edges_of set.now.set)) sizes.least (sizes.most + 1) spot.at }
 {
-    let exact = stays_exact(spot.exact, item.wide);
-    add_bytes(sets, spot.from, exact, &item.bytes);
+    if spot.from >= sets.len() || !has_size(set, code.meaning, sizes) {
+        return;
+    }
+    add_members(sets, spot.from, spot.exact, set, code.meaning, sizes);
     let after = Spot {
-        from: spot.from + 1,
-        exact,
+        from: spot.from.saturating_add(sizes.least),
+        exact: spot.exact && sizes.least == sizes.most,
         ..spot
     };
-    collect(code, after, deep, sets, left);
+    collect(code, after, sets, left);
+}
+
+/// The same for all members of a set: for each number of bytes by itself, if they are few.
+#[cycle(collect)]
+fn collect_members(
+    code: &Code,
+    spot: Spot,
+    set: &CharSet,
+    sets: &mut Vec<ByteSet>,
+    left: &mut usize,
+)
+    ensures wider { Wider sets.old.items sets.new.items }
+    ensures told { ForetoldPast (instrs_of code.now) code.now.meaning sets.new.items spot.from spot.exact
+        (has (edges_of set.now.set)) 1 5 spot.at }
+{
+    if !is_small(set) && code.meaning != Meaning::Bytes {
+        collect_sizes(code, spot, set, Sizes { least: 1, most: 4 }, sets, left);
+        return;
+    }
+    for size in 1..5 {
+        let sizes = Sizes {
+            least: size,
+            most: size,
+        };
+        collect_sizes(code, spot, set, sizes, sets, left);
+    }
+}
+
+/// The same for a character.
+#[cycle(collect)]
+fn collect_character(code: &Code, spot: Spot, c: char, sets: &mut Vec<ByteSet>, left: &mut usize)
+    requires inside { spot.from < length sets.old.items }
+    ensures wider { Wider sets.old.items sets.new.items }
+    ensures told { ForetoldPast (instrs_of code.now) code.now.meaning sets.new.items spot.from spot.exact
+        (λ d. d == c) 1 5 spot.at }
+{
+    add_character(sets, spot.from, spot.exact, c, code.meaning);
+    let after = Spot {
+        from: spot.from.saturating_add(size_of(c, code.meaning)),
+        ..spot
+    };
+    collect(code, after, sets, left);
 }
 
 /// Adds to the sets the bytes that may stand from a place on, as the code goes on there. Where a way may stop, or the code is not
 /// followed any further, the row ends.
 #[cycle(collect)]
-fn collect(code: &Code, spot: Spot, deep: usize, sets: &mut Vec<ByteSet>, left: &mut usize)
+fn collect(code: &Code, spot: Spot, sets: &mut Vec<ByteSet>, left: &mut usize)
     ensures wider { Wider sets.old.items sets.new.items }
     ensures told { Foretold (instrs_of code.now) code.now.meaning sets.new.items spot.from
         spot.exact spot.at }
@@ -81,34 +126,60 @@ fn collect(code: &Code, spot: Spot, deep: usize, sets: &mut Vec<ByteSet>, left: 
     if spot.from >= sets.len() || spot.at >= code.len() {
         return;
     }
-    if deep == 0 || *left == 0 {
+    if spot.deep == 0 || *left == 0 {
         sets.truncate(spot.from);
         return;
     }
     *left -= 1;
-    let deep = deep - 1;
+    let deep = spot.deep - 1;
     match code.instr(spot.at) {
         Instr::Fail => {}
         Instr::Character(character, next) => {
-            let item = item_of_character(*character, code.meaning);
-            collect_item(code, Spot { at: *next, ..spot }, item, deep, sets, left);
+            let after = Spot {
+                at: *next,
+                deep,
+                ..spot
+            };
+            collect_character(code, after, *character, sets, left);
         }
         Instr::Member(set, next) => {
-            let item = item_of_set(code.set(*set), code.meaning);
-            collect_item(code, Spot { at: *next, ..spot }, item, deep, sets, left);
+            let after = Spot {
+                at: *next,
+                deep,
+                ..spot
+            };
+            collect_members(code, after, code.set(*set), sets, left);
         }
         Instr::Assert(_, next) | Instr::Open(_, next) | Instr::Close(_, next) => {
-            collect(code, Spot { at: *next, ..spot }, deep, sets, left);
+            collect(
+                code,
+                Spot {
+                    at: *next,
+                    deep,
+                    ..spot
+                },
+                sets,
+                left,
+            );
         }
         Instr::Split(first, second) => {
-            collect(code, Spot { at: *first, ..spot }, deep, sets, left);
+            collect(
+                code,
+                Spot {
+                    at: *first,
+                    deep,
+                    ..spot
+                },
+                sets,
+                left,
+            );
             collect(
                 code,
                 Spot {
                     at: *second,
+                    deep,
                     ..spot
                 },
-                deep,
                 sets,
                 left,
             );
@@ -117,18 +188,18 @@ fn collect(code: &Code, spot: Spot, deep: usize, sets: &mut Vec<ByteSet>, left: 
     }
 }
 
-/// Whether this is the test of the text's start.
-fn is_text_start(assertion: Assertion) -> bool
-    ensures { result ≡ true → assertion ≡ Assertion.TextStart }
+/// Whether these are the same.
+fn is_same(assertion: Assertion, other: Assertion) -> bool
+    ensures { result ≡ true → assertion ≡ other }
 {
-    matches!(assertion, Assertion::TextStart)
+    assertion == other
 }
 
-/// Whether the code goes on from an instruction at the text's start alone. It is not told where the code is not followed any
+/// Whether the code goes on from an instruction only where an assertion holds. It is not told where the code is not followed any
 /// further.
 #[cycle(anchored)]
-fn is_anchored(code: &Code, at: usize, deep: usize, left: &mut usize) -> bool
-    ensures { result ≡ true → IsAnchored (instrs_of code.now) at }
+fn is_anchored(code: &Code, anchor: Assertion, at: usize, deep: usize, left: &mut usize) -> bool
+    ensures { result ≡ true → IsAnchored (instrs_of code.now) anchor at }
 {
     if at >= code.len() {
         return true;
@@ -141,14 +212,34 @@ fn is_anchored(code: &Code, at: usize, deep: usize, left: &mut usize) -> bool
     match code.instr(at) {
         Instr::Fail => true,
         Instr::Assert(assertion, next) => {
-            is_text_start(*assertion) || is_anchored(code, *next, deep, left)
+            is_same(*assertion, anchor) || is_anchored(code, anchor, *next, deep, left)
         }
-        Instr::Open(_, next) | Instr::Close(_, next) => is_anchored(code, *next, deep, left),
+        Instr::Open(_, next) | Instr::Close(_, next) => {
+            is_anchored(code, anchor, *next, deep, left)
+        }
         Instr::Split(first, second) => {
-            is_anchored(code, *first, deep, left) && is_anchored(code, *second, deep, left)
+            is_anchored(code, anchor, *first, deep, left)
+                && is_anchored(code, anchor, *second, deep, left)
         }
         _ => false,
     }
+}
+
+/// Whether each match starts where an assertion holds.
+fn starts_at(code: &Code, anchor: Assertion) -> bool
+    ensures { result ≡ true → IsAnchored (instrs_of code.now) anchor code.now.start }
+{
+    let mut left = FOLLOWED;
+    is_anchored(code, anchor, code.start, DEPTH, &mut left)
+}
+
+/// The scan for line feeds.
+fn line_feeds() -> Scan
+    ensures { member result 10 ≡ true }
+{
+    let mut set = ByteSet::new();
+    set.insert(b'\n');
+    Scan::new(set)
 }
 
 /// The sets of the bytes that may stand at so many first places of what the code consumes from an instruction on, as far as they are
@@ -168,8 +259,9 @@ pub(crate) fn sets_within(
         at,
         from: 0,
         exact: true,
+        deep: DEPTH,
     };
-    collect(code, spot, DEPTH, &mut sets, left);
+    collect(code, spot, &mut sets, left);
     Ok(sets)
 }
 
@@ -202,19 +294,14 @@ fn window_of(alloc: Global, code: &Code) -> Result<Option<Window>, AllocError>
     Ok(window)
 }
 
-/// The same code, with what tells where a match may start.
-pub(crate) fn with_starts(alloc: Global, code: Code) -> Result<Code, AllocError>
+/// The same code, with the bytes that each match opens with, if they tell something.
+fn with_opening(alloc: Global, code: Code) -> Result<Code, AllocError>
     ensures instrs { IfOk result (λ c. instrs_of c ≡ instrs_of code) }
     ensures groups { IfOk result (λ c. c.groups ≡ code.groups) }
     ensures meaning { IfOk result (λ c. c.meaning ≡ code.meaning) }
     ensures is { IfOk result (λ c. (p : Pattern) → IsCodeOf p code → IsCodeOf p c) }
 {
     let mut code = code;
-    let mut left = FOLLOWED;
-    if is_anchored(&code, code.start, DEPTH, &mut left) {
-        code.prefilter.only_at_start = true;
-        return Ok(code);
-    }
     if let Some(branches) = branches_of(alloc, &code)? {
         code.prefilter.opening = Opening::Words(branches);
         return Ok(code);
@@ -224,4 +311,42 @@ pub(crate) fn with_starts(alloc: Global, code: Code) -> Result<Code, AllocError>
     };
     code.prefilter.opening = Opening::Window(window);
     Ok(code)
+}
+
+/// Whether each match starts at a line start, and a search would go by them.
+fn starts_lines(code: &Code) -> bool
+    ensures { result ≡ true → IsAnchored (instrs_of code.now) Assertion.LineStart code.now.start }
+{
+    code.prefilter.is_worth_lines() && starts_at(code, Assertion::LineStart)
+}
+
+/// The same code, with the scan for the line feeds after which its matches start.
+fn with_lines(code: Code) -> Code
+    ensures instrs { instrs_of result ≡ instrs_of code }
+    ensures groups { result.groups ≡ code.groups }
+    ensures meaning { result.meaning ≡ code.meaning }
+    ensures is { (p : Pattern) → IsCodeOf p code → IsCodeOf p result }
+{
+    if !starts_lines(&code) {
+        return code;
+    }
+    let mut code = code;
+    code.prefilter.lines = Some(line_feeds());
+    code
+}
+
+/// The same code, with what tells where a match may start.
+pub(crate) fn with_starts(alloc: Global, code: Code) -> Result<Code, AllocError>
+    ensures instrs { IfOk result (λ c. instrs_of c ≡ instrs_of code) }
+    ensures groups { IfOk result (λ c. c.groups ≡ code.groups) }
+    ensures meaning { IfOk result (λ c. c.meaning ≡ code.meaning) }
+    ensures is { IfOk result (λ c. (p : Pattern) → IsCodeOf p code → IsCodeOf p c) }
+{
+    let mut code = code;
+    if starts_at(&code, Assertion::TextStart) {
+        code.prefilter.only_at_start = true;
+        return Ok(code);
+    }
+    let code = with_opening(alloc, code)?;
+    Ok(with_lines(code))
 }

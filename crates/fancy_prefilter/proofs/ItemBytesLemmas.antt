@@ -1,26 +1,15 @@
 -- The bytes of items.
-use Rattle.std.proofs.Common.{◌≡◌, ℕ, zero, suc, ◌+◌, ◌%◌, ◌<◌, ◌≤◌, ◌==◌, Bool, true, false, not, ◌&&◌, ◌||◌, ◌⊎◌, List, [], ◌∷◌, length, nat_le, nat_lt, inl, inr, refl, sym, ap, ◌∙◌, arith, slice_index, eqb-true}
+use Rattle.std.proofs.Common.{◌≡◌, ℕ, zero, suc, ◌+◌, ◌%◌, ◌<◌, ◌≤◌, ◌==◌, Bool, true, false, not, List, [], ◌∷◌, length, inl, inr, refl, sym, ap, ◌∙◌, arith, slice_index, eqb-true, true≢false}
 use Rattle.std.proofs.lemmas.Bool.Decides.{nat_tests}
-use Rattle.std.proofs.lemmas.Bool.{cases_eq, cases_lt, le-leb}
+use Rattle.std.proofs.lemmas.Bool.{cases_lt, le-leb}
 use Rattle.std.proofs.lemmas.Str.{length-encode, len_utf8_bounds}
 use Rattle.std.specs.Char.{len_utf8, encode_utf8}
-use Rattle.fancy_tree.specs.declared.tree.Meaning.{Meaning}
-use Rattle.fancy_tree.specs.declared.tree.Meaning.TheVariants.{Unicode, Bytes, AsciiText}
 use Rattle.fancy_tree.specs.Sets.{has, differ, is_odd}
-use Rattle.fancy_bytes.specs.Items.{encoding}
 use Rattle.fancy_bytes.specs.Sets.{ByteFlags, member}
-use Rattle.fancy_prefilter.specs.Rows.{AreBytesOf}
-
-truth : (b : Bool) → (b ≡ true) ⊎ (b ≡ false)
-truth true = inl refl
-truth false = inr refl
-
-pub high_added : (i b : ℕ) (was now next : Bool) → 128 ≤ i → now ≡ (was || (nat_le 128 b && nat_lt b i)) → next ≡ (now || (b == i)) → next ≡ (was || (nat_le 128 b && nat_lt b (i + 1)))
-high_added i b was now next le before adds =
-    elim (cases_eq b i) [
-      | inl same ↦ grind (arith, nat_tests)
-      | inr other ↦ grind (arith, nat_tests)
-    ]
+use Rattle.fancy_bytes.proofs.BoolLemmas.{both_hold, le_test, some_below_from}
+use Rattle.fancy_bytes.proofs.EdgeLemmas.{NoEdgeIn, no_member}
+use Rattle.fancy_prefilter.specs.Windows.{set_at}
+use Rattle.fancy_prefilter.specs.Rows.{HasEncoding, Wider}
 
 -- each byte of a character past ASCII is above those of ASCII
 high_byte : (c i : ℕ) → 128 ≤ c → i < len_utf8 c → 128 ≤ slice_index (encode_utf8 c) i
@@ -53,45 +42,48 @@ unfolding is_odd
 none_past es c even below past =
     passed_edges es c (λ k lt. omega (arith, below k lt, past)) ∙ ap (λ (r : ℕ). r == 1) (eqb-true (length es % 2) 0 even)
 
-module _ (c : ℕ) (bytes : ByteFlags) (wide : Bool) (low : c < 256 → member bytes c ≡ true) (high : wide ≡ true → (b : ℕ) → 128 ≤ b → b < 256 → member bytes b ≡ true) where
-  text_has : (wide ≡ false → c < 128) → (i : ℕ) → i < length (encode_utf8 c) → slice_index (encode_utf8 c) i < 256 → member bytes (slice_index (encode_utf8 c) i) ≡ true
-  text_has small i inside lt =
+-- no member lies between two numbers where the first is none and no edge between them is one
+pub none_between : (es : List ℕ) (first last : ℕ) → has es first ≡ false → NoEdgeIn es first last (length es) → (c : ℕ) → first ≤ c → c < last → has es c ≡ false
+none_between es first last out none c from lt = by_case (has es c) refl where
+  by_case : (b : Bool) → has es c ≡ b → has es c ≡ false
+  by_case false e = e
+  by_case true e =
+      absurd (true≢false (sym (some_below_from last _ c lt (both_hold _ (has es c) (le_test first c from) e)) ∙ sym (no_member es first last (length es) (omega arith) out none)))
+
+-- what has more sets has an item's bytes where they were
+pub wider_encoding : (old new : List ByteFlags) → Wider old new → (from : ℕ) (exact : Bool) (bytes : List ℕ) → HasEncoding old from exact bytes → HasEncoding new from exact bytes
+wider_encoding old new w from exact bytes h i j inside small le same lt =
+    w.has j (slice_index bytes i) lt small (h i j inside small le same (omega (arith, lt, w.shorter)))
+
+module _ (sets : List ByteFlags) (from : ℕ) (exact : Bool) (c : ℕ) where
+  -- the byte of a character that is ASCII
+  pub ascii_encoding : c < 128 → ((j : ℕ) → from ≤ j → (exact ≡ true → j ≡ from) → j < length sets → c < 256 → member (set_at sets j) c ≡ true) → HasEncoding sets from exact (encode_utf8 c)
+  ascii_encoding ascii low i j inside small le same lt =
+      let text : encode_utf8 c ≡ c ∷ [] = low_text c ascii in
+      let first : i ≡ 0 = omega (arith, inside, ap length text) in
+      let here : slice_index (encode_utf8 c) i ≡ c = ap (λ (l : List ℕ). slice_index l i) text ∙ ap (slice_index (c ∷ [])) first in
+      ap (member (set_at sets j)) here ∙ low j (omega (arith, le)) (λ e. omega (arith, same e, first)) lt (omega (arith, ascii))
+
+  -- the bytes of a character, where each set that they come to has the character or all bytes past ASCII
+  pub rough_encoding : ((j : ℕ) → from ≤ j → (exact ≡ true → j ≡ from) → j < length sets → c < 128 → member (set_at sets j) c ≡ true)
+      → ((i j b : ℕ) → i < 4 → from + i ≤ j → (exact ≡ true → j ≡ from + i) → j < length sets → 128 ≤ b → b < 256 → member (set_at sets j) b ≡ true)
+      → HasEncoding sets from exact (encode_utf8 c)
+  rough_encoding low high i j inside small le same lt =
       elim (cases_lt c 128) [
-        | inl ascii ↦
-            let text : encode_utf8 c ≡ c ∷ [] = low_text c ascii in
-            let first : i ≡ 0 = omega (arith, inside, ap length text) in
-            let here : slice_index (encode_utf8 c) i ≡ c = ap (λ (l : List ℕ). slice_index l i) text ∙ ap (slice_index (c ∷ [])) first in
-            ap (member bytes) here ∙ low (omega (arith, ascii))
+        | inl ascii ↦ ascii_encoding ascii (λ k above only within byte. low k above only within ascii) i j inside small le same lt
         | inr past ↦
-            elim (truth wide) [
-              | inl broad ↦ high broad (slice_index (encode_utf8 c) i) (high_byte c i past (omega (arith, inside, length-encode c))) lt
-              | inr narrow ↦ absurd (omega (arith, small narrow, past))
-            ]
+            let size : i < len_utf8 c = omega (arith, inside, length-encode c) in
+            high i j (slice_index (encode_utf8 c) i) (omega (arith, size, (len_utf8_bounds c).1)) le same lt (high_byte c i past size) small
       ]
 
-  text_one : (wide ≡ false → c < 128) → wide ≡ false → length (encode_utf8 c) ≡ 1
-  text_one small narrow = ap length (low_text c (small narrow))
+pub one_byte : (c : ℕ) → len_utf8 c ≤ 1 → c < 128
+one_byte c le = elim (cases_lt c 128) [
+  | inl lt ↦ lt
+  | inr past ↦ absurd (grind (arith, nat_tests))
+]
 
-  byte_has : (i : ℕ) → i < length (c ∷ []) → slice_index (c ∷ []) i < 256 → member bytes (slice_index (c ∷ []) i) ≡ true
-  byte_has zero inside lt = low lt
-  byte_has (suc i) inside lt = absurd (omega (arith, inside))
-
-  -- the bytes of an item, of which there is one where it is not wide
-  pub item_has : (m : Meaning) → (wide ≡ false → (m ≡ Bytes) ⊎ (c < 128)) → (i : ℕ) → i < length (encoding m c) → slice_index (encoding m c) i < 256
-      → member bytes (slice_index (encoding m c) i) ≡ true
-  item_has Unicode small i inside lt = text_has (λ narrow. elim (small narrow) [ inl e ↦ cc | inr ascii ↦ ascii ]) i inside lt
-  item_has Bytes small i inside lt = byte_has i inside lt
-  item_has AsciiText small i inside lt = text_has (λ narrow. elim (small narrow) [ inl e ↦ cc | inr ascii ↦ ascii ]) i inside lt
-
-  pub item_one : (m : Meaning) → (wide ≡ false → (m ≡ Bytes) ⊎ (c < 128)) → wide ≡ false → length (encoding m c) ≡ 1
-  item_one Unicode small narrow = text_one (λ narrow. elim (small narrow) [ inl e ↦ cc | inr ascii ↦ ascii ]) narrow
-  item_one Bytes small narrow = refl
-  item_one AsciiText small narrow = text_one (λ narrow. elim (small narrow) [ inl e ↦ cc | inr ascii ↦ ascii ]) narrow
-
-pub are_bytes : (m : Meaning) (test : ℕ → Bool) (bytes : ByteFlags) (wide : Bool) → ((c : ℕ) → test c ≡ true → c < 256 → member bytes c ≡ true)
-    → (wide ≡ true → (b : ℕ) → 128 ≤ b → b < 256 → member bytes b ≡ true)
-    → ((c : ℕ) → test c ≡ true → wide ≡ false → (m ≡ Bytes) ⊎ (c < 128)) → AreBytesOf m test bytes wide
-are_bytes m test bytes wide low high small = record {
-  has = λ c i passes inside lt. item_has c bytes wide (low c passes) high m (small c passes) i inside lt;
-  one = λ c passes narrow. item_one c bytes wide (low c passes) high m (small c passes) narrow;
+pub wider_on : (a b c : List ByteFlags) → Wider a b → Wider b c → Wider a c
+wider_on a b c f g = record {
+  shorter = omega (arith, f.shorter, g.shorter);
+  has = λ j byte inside small e. g.has j byte inside small (f.has j byte (omega (arith, inside, g.shorter)) small e);
 }

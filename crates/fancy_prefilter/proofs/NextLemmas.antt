@@ -1,8 +1,9 @@
 -- Where a search goes on to, by what tells where no match starts.
-use Rattle.std.proofs.Common.{◌≡◌, ℕ, ◌+◌, ◌<◌, ◌≤◌, true, inl, inr, List, Option, Some, None, sym, subst, ◌∙◌, arith, true≢false}
+use Rattle.std.proofs.Common.{◌≡◌, ℕ, zero, suc, ◌+◌, ◌<◌, ◌≤◌, true, inl, inr, List, Option, Some, None, sym, subst, ◌∙◌, arith, true≢false}
 use Rattle.std.proofs.lemmas.Bool.{cases_lt}
 use Rattle.fancy_bytes.specs.Sets.{ByteFlags}
-use Rattle.fancy_prefilter.specs.NextOpening.{LacksOpening, StartsNot, by_byte, by_start, by_opening, IsNextOpening}
+use Rattle.fancy_prefilter.specs.NextOpening.{FollowsNone, IsWithinLine, LacksOpening, StartsNot, by_byte, by_start, by_line, by_opening, IsNextOpening}
+use Rattle.fancy_prefilter.specs.Seeks.{NoneSeenBefore}
 use Rattle.fancy_prefilter.specs.Seen.{MayStart, MayNotStart, IsNextCandidate}
 use Rattle.fancy_prefilter.specs.declared.prefilter.Opening.{Opening}
 use Rattle.fancy_prefilter.specs.declared.prefilter.Prefilter.{Prefilter}
@@ -66,3 +67,36 @@ module _ (f : Prefilter) (haystack : List ℕ) (range_end from last : ℕ) where
   -- past the text's start there is none for a match that starts there alone
   pub next_past : from ≤ last + 1 → f.only_at_start ≡ true → 0 < from → IsNextOpening f haystack range_end from last (last + 1)
   next_past ordered only later = next_nowhere ordered (λ k low. by_start only (omega (arith, low, later)))
+
+  -- a place where a match may start, where none starts before it
+  pub next_may : (place : ℕ) → from ≤ place → place ≤ last → MayStart f.starts haystack range_end place → ((k : ℕ) → from ≤ k → k < place → StartsNot f haystack range_end k)
+      → IsNextOpening f haystack range_end from last place
+  next_may place later within may none = record {
+    passed = later;
+    within = omega (arith, within);
+    some = λ le never. starts_somewhere f.starts haystack range_end place may (never place later (omega (arith, le)));
+    none = none;
+  }
+
+-- past a place where no match starts there is none up to the next line
+pub next_line : (f : Prefilter) (set : ByteFlags) (haystack : List ℕ) (range_end from place next : ℕ) → f.lines ≡ Some set
+    → ((k : ℕ) → from ≤ k → k < place → StartsNot f haystack range_end k) → StartsNot f haystack range_end place
+    → ((k : ℕ) → place + 1 ≤ k → k < next → FollowsNone set haystack k) → (k : ℕ) → from ≤ k → k < next → StartsNot f haystack range_end k
+next_line f set haystack range_end from place next is before here after k low high =
+    elim (cases_lt k place) [
+      | inl lt ↦ before k low lt
+      | inr ge ↦ elim (cases_lt place k) [
+        | inl past ↦ by_line (subst (λ (o : Option ByteFlags). IsWithinLine o haystack k) (sym is) (after k (omega (arith, past)) high))
+        | inr le ↦ subst (λ (p : ℕ). StartsNot f haystack range_end p) (omega (arith, ge, le)) here
+      ]
+    ]
+
+-- no match starts before the first line
+pub first_line : (f : Prefilter) (set : ByteFlags) (haystack : List ℕ) (range_end from next : ℕ) → f.lines ≡ Some set
+    → ((k : ℕ) → from ≤ k → k < next → FollowsNone set haystack k) → (k : ℕ) → from ≤ k → k < next → StartsNot f haystack range_end k
+first_line f set haystack range_end from next is none k low high = by_line (subst (λ (o : Option ByteFlags). IsWithinLine o haystack k) (sym is) (none k low high))
+
+-- past where no byte of the set stands no place follows one
+pub none_followed : (set : ByteFlags) (haystack : List ℕ) (from to k : ℕ) → NoneSeenBefore set haystack from to → from < k → k < to + 1 → FollowsNone set haystack k
+none_followed set haystack from to zero none low high = absurd (omega (arith, low))
+none_followed set haystack from to (suc q) none low high = none q (omega (arith, low)) (omega (arith, high))

@@ -1,5 +1,6 @@
 -- Where a search goes on to, by all that tells where no match starts.
-use Rattle.std.specs.Prelude.{◌≡◌, ℕ, ◌+◌, ◌<◌, ◌≤◌, true, List, slice_index}
+use Rattle.std.specs.Prelude.{◌≡◌, ℕ, zero, suc, ◌+◌, ◌<◌, ◌≤◌, true, false, List, Option, Some, None, slice_index}
+use Rattle.fancy_bytes.specs.Sets.{ByteFlags, member}
 use Rattle.fancy_bytes.specs.Openings.{StandsBefore}
 use Rattle.fancy_prefilter.specs.Windows.{StandsFrom}
 use Rattle.fancy_prefilter.specs.KeyTables.{NoneMayStand}
@@ -19,10 +20,21 @@ LacksOpening (Words b) haystack range_end p = NoneMayStand b.table haystack rang
 abbrev pub IsRuledOut : Opening → ℕ → ℕ → Type 0
 IsRuledOut o place byte = (haystack : List ℕ) (range_end p : ℕ) → slice_index haystack (p + place) ≡ byte → LacksOpening o haystack range_end p
 
--- no match starts at p: by its first byte, since it would start past the text's start, or by what it opens with
+-- p is not the haystack's start, and no byte of the set stands before it
+abbrev pub FollowsNone : ByteFlags → List ℕ → ℕ → Type 0
+FollowsNone set haystack zero = ⊥
+FollowsNone set haystack (suc p) = member set (slice_index haystack p) ≡ false
+
+-- each match starts at the text's start or after a byte of the set, and p is no such place
+abbrev pub IsWithinLine : Option ByteFlags → List ℕ → ℕ → Type 0
+IsWithinLine None haystack p = ⊥
+IsWithinLine (Some set) haystack p = FollowsNone set haystack p
+
+-- no match starts at p: by its first byte, since it would start past the text's start, or within a line, or by what it opens with
 pub data StartsNot (f : Prefilter) (haystack : List ℕ) (range_end p : ℕ) : Type 0 where
   by_byte : MayNotStart f.starts haystack range_end p → StartsNot f haystack range_end p
   by_start : f.only_at_start ≡ true → 0 < p → StartsNot f haystack range_end p
+  by_line : IsWithinLine f.lines haystack p → StartsNot f haystack range_end p
   by_opening : LacksOpening f.opening haystack range_end p → StartsNot f haystack range_end p
 
 -- p is a place, from the one on and up to the other, at which a search may go on, since no match starts before it; or it is past both. Where no match starts by its first byte, it is past both.

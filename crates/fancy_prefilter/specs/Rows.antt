@@ -1,7 +1,7 @@
 -- Rows of sets of bytes that are widened, and the bytes of an item.
-use Rattle.std.specs.Prelude.{◌≡◌, ℕ, ◌<◌, ◌≤◌, Bool, true, false, List, length, slice_index}
+use Rattle.std.specs.Prelude.{◌≡◌, ℕ, ◌+◌, ◌<◌, ◌≤◌, Bool, true, List, length, slice_index}
 use Rattle.fancy_tree.specs.declared.tree.Meaning.{Meaning}
-use Rattle.fancy_bytes.specs.Items.{encoding}
+use Rattle.fancy_bytes.specs.Items.{encoding, is_item}
 use Rattle.fancy_bytes.specs.Sets.{ByteFlags, member}
 use Rattle.fancy_prefilter.specs.Windows.{set_at}
 
@@ -15,7 +15,17 @@ abbrev pub HasFrom : List ByteFlags → ℕ → Bool → ByteFlags → Type 0
 HasFrom sets from exact bytes =
     (j b : ℕ) → from ≤ j → (exact ≡ true → j ≡ from) → j < length sets → b < 256 → member bytes b ≡ true → member (set_at sets j) b ≡ true
 
--- The items that pass a test have these bytes, and one alone where they are not wide.
-pub record AreBytesOf (m : Meaning) (test : ℕ → Bool) (bytes : ByteFlags) (wide : Bool) : Type 0 where
-  pub has : (c i : ℕ) → test c ≡ true → i < length (encoding m c) → slice_index (encoding m c) i < 256 → member bytes (slice_index (encoding m c) i) ≡ true
-  pub one : (c : ℕ) → test c ≡ true → wide ≡ false → length (encoding m c) ≡ 1
+-- An item's bytes stand in the sets at their places, the first in the set with the number `from`; where it is not told that it stands there, each in all further sets too.
+abbrev pub HasEncoding : List ByteFlags → ℕ → Bool → List ℕ → Type 0
+HasEncoding sets from exact bytes =
+    (i j : ℕ) → i < length bytes → slice_index bytes i < 256 → from + i ≤ j → (exact ≡ true → j ≡ from + i) → j < length sets
+    → member (set_at sets j) (slice_index bytes i) ≡ true
+
+-- So do those of all items that pass a test and have so many bytes, at least and at most.
+abbrev pub HasItems : List ByteFlags → ℕ → Bool → Meaning → (ℕ → Bool) → ℕ → ℕ → Type 0
+HasItems sets from exact m test least most =
+    (c : ℕ) → test c ≡ true → is_item m c ≡ true → least ≤ length (encoding m c) → length (encoding m c) ≤ most → HasEncoding sets from exact (encoding m c)
+
+-- no item passes a test that has so many bytes, at least and at most
+abbrev pub HasNone : Meaning → (ℕ → Bool) → ℕ → ℕ → Type 0
+HasNone m test least most = (c : ℕ) → test c ≡ true → is_item m c ≡ true → least ≤ length (encoding m c) → length (encoding m c) ≤ most → ⊥

@@ -1,14 +1,18 @@
 //! The positions at which a match may start.
 
-ghost use Rattle.std.specs.Prelude.{◌≡◌, ◌+◌, ◌≤◌, length};
+ghost use Rattle.std.specs.Prelude.{◌≡◌, ℕ, ◌+◌, ◌<◌, ◌≤◌, Some, true, false, length};
 ghost use Rattle.fancy_bytes.specs.Openings.{NoneStandsBefore};
-ghost use Rattle.fancy_prefilter.specs.NextOpening.{IsNextOpening};
-ghost use Rattle.fancy_prefilter.specs.Seen.{IsNextCandidate};
+ghost use Rattle.fancy_prefilter.specs.NextOpening.{FollowsNone, IsNextOpening, LacksOpening, StartsNot};
+ghost use Rattle.fancy_prefilter.specs.Seen.{IsNextCandidate, MayNotStart, MayStart};
 
 use crate::branches::Branches;
 use crate::literal::Literal;
 use crate::prefilter::{Opening, Prefilter};
+use crate::scan::Scan;
 use crate::window::Window;
+
+/// At so many places of a line it is looked at what each match opens with.
+const PLACES: usize = 8;
 
 /// The first position, from the one on and up to the last, at which a match may start by its first byte; past the last where
 /// none may. A match that must start at some byte starts before the end of the range.
@@ -153,6 +157,88 @@ fn next_by_words(
     }
 }
 
+/// The first place, from the one on and up to the last, at the text's start or after a byte of the set; past the last where there is
+/// none.
+#[inline]
+fn next_line(feeds: &Scan, haystack: &[u8], from: usize, last: usize) -> usize
+    requires ordered { from ≤ last + 1 }
+    requires inside { last ≤ length haystack.now }
+    ensures passed { from ≤ result }
+    ensures within { result ≤ last + 1 }
+    ensures none { (k : ℕ) → from ≤ k → k < result → FollowsNone feeds.now haystack.now k }
+{
+    if from == 0 {
+        return from;
+    }
+    match feeds.next_seen(haystack, from - 1, last) {
+        None => last + 1,
+        Some(feed) => feed + 1,
+    }
+}
+
+/// Whether a match may start at a place by its first byte.
+fn may_start(starts: &Option<Scan>, haystack: &[u8], range_end: usize, place: usize) -> bool
+    requires inside { range_end ≤ length haystack.now }
+    ensures may { result ≡ true → MayStart starts.now haystack.now range_end place }
+    ensures never { result ≡ false → MayNotStart starts.now haystack.now range_end place }
+{
+    match starts {
+        None => true,
+        Some(scan) => place < range_end && scan.contains(haystack[place]),
+    }
+}
+
+/// Whether what each match opens with may stand at a place, by each of its first bytes alone.
+fn may_open(opening: &Opening, haystack: &[u8], place: usize) -> bool
+    requires inside { place ≤ length haystack.now }
+    ensures { result ≡ false → (end : ℕ) → LacksOpening opening.now haystack.now end place }
+{
+    let left = haystack.len() - place;
+    for i in 0..left.min(PLACES) {
+        if !opening.may_hold(i, haystack[place + i]) {
+            return false;
+        }
+    }
+    true
+}
+
+/// Whether a match may start at a place, by the bytes there.
+fn may_begin(prefilter: &Prefilter, haystack: &[u8], range_end: usize, place: usize) -> bool
+    requires place { place ≤ range_end }
+    requires inside { range_end ≤ length haystack.now }
+    ensures may { result ≡ true → MayStart prefilter.now.starts haystack.now range_end place }
+    ensures never { result ≡ false → StartsNot prefilter.now haystack.now range_end place }
+{
+    may_start(&prefilter.starts, haystack, range_end, place)
+        && may_open(&prefilter.opening, haystack, place)
+}
+
+/// What [`next_opening`] answers where each match starts at the text's start or after a line feed.
+#[inline(never)]
+fn next_by_lines(
+    prefilter: &Prefilter,
+    feeds: &Scan,
+    haystack: &[u8],
+    range_end: usize,
+    from: usize,
+    last: usize,
+) -> usize
+    requires lines { prefilter.now.lines ≡ Some feeds.now }
+    requires ordered { from ≤ last + 1 }
+    requires last { last ≤ range_end }
+    requires inside { range_end ≤ length haystack.now }
+    ensures { IsNextOpening prefilter.now haystack.now range_end from last result }
+{
+    let mut place = next_line(feeds, haystack, from, last);
+    while place <= last {
+        if may_begin(prefilter, haystack, range_end, place) {
+            return place;
+        }
+        place = next_line(feeds, haystack, place + 1, last);
+    }
+    place
+}
+
 /// The first position, from the one on and up to the last, at which a search goes on, past the last where there is none: no
 /// match begins before it. A match that starts at the text's start alone is tried there alone.
 #[inline]
@@ -170,6 +256,9 @@ pub fn next_opening(
 {
     if prefilter.only_at_start && from > 0 {
         return last + 1;
+    }
+    if let Some(feeds) = &prefilter.lines {
+        return next_by_lines(prefilter, feeds, haystack, range_end, from, last);
     }
     match &prefilter.opening {
         Opening::Untold => candidate_from(prefilter, haystack, range_end, from, last),

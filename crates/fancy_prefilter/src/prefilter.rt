@@ -54,6 +54,8 @@ pub struct Prefilter {
     pub starts: Option<Scan>,
     /// Each match starts at the text's start.
     pub only_at_start: bool,
+    /// Where each match starts at the text's start or after a line feed: the scan for line feeds.
+    pub lines: Option<Scan>,
     /// What each match opens with.
     pub opening: Opening,
 }
@@ -76,6 +78,7 @@ impl Prefilter {
     pub fn new(alloc: Global, tree: &Tree, meaning: Meaning) -> Result<Prefilter, AllocError>
         ensures starts { IfOk result (λ f. AreStartBytes meaning (pattern_of tree.now) f.starts) }
         ensures anchored { IfOk result (λ f. f.only_at_start ≡ false) }
+        ensures lines { IfOk result (λ f. f.lines ≡ None) }
         ensures text { IfOk result (λ f. IfSome (text_in f.opening) (λ text. text ≡ opening meaning (pattern_of tree.now))) }
         ensures window { IfOk result (λ f. window_in f.opening ≡ None) }
         ensures branches { IfOk result (λ f. branches_in f.opening ≡ None) }
@@ -85,20 +88,26 @@ impl Prefilter {
         Ok(Prefilter {
             starts,
             only_at_start: false,
+            lines: None,
             opening,
         })
     }
 
-    /// Whether a search would scan for a window: not where each match opens with one text, or starts with one byte, for which
-    /// it scans faster, nor where a match may start with any byte.
-    pub fn is_worth_window(&self) -> bool {
+    /// Whether a search would go from line to line where matches start there alone: not where each match opens with one text, or
+    /// starts with one byte, for which it scans faster.
+    pub fn is_worth_lines(&self) -> bool {
         if self.has_text() {
             return false;
         }
         match &self.starts {
-            None => false,
+            None => true,
             Some(scan) => !scan.has_one(),
         }
+    }
+
+    /// Whether a search would scan for a window: nor where a match may start with any byte.
+    pub fn is_worth_window(&self) -> bool {
+        self.starts.is_some() && self.is_worth_lines()
     }
 
     /// Whether each match opens with a text that is told.

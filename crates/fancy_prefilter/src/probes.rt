@@ -7,29 +7,39 @@ ghost use Rattle.fancy_prefilter.specs.Probes.{IsProbeOf, AreProbesOf, LetsBegin
 use crate::half_tables::HalfTables;
 use fancy_bytes::byte_set::ByteSet;
 
-/// The bytes of which English text has most.
+/// The ASCII bytes of which English text has most.
 const FREQUENT: &[u8] = b" etaoinsrhl";
 
-/// How common the members of a set are taken to be: how many there are, and each that is frequent counts for 16 more.
-fn commonness(set: &ByteSet) -> usize {
-    let mut sum = set.len();
+/// From this one on bytes begin characters of UTF-8, and texts of one script have few of them many times.
+const LEAD: u32 = 0xC0;
+
+/// The bytes that are frequent.
+fn frequent_bytes() -> ByteSet {
+    let mut bytes = ByteSet::new();
     for &byte in FREQUENT {
-        if set.contains(byte) {
-            sum = sum.saturating_add(16);
-        }
+        bytes.insert(byte);
     }
-    sum
+    for byte in LEAD..256u32 {
+        bytes.insert(byte as u8);
+    }
+    bytes
+}
+
+/// How common the members of a set are taken to be: how many there are, and each that is frequent counts for 16 more.
+fn commonness(set: &ByteSet, frequent: &ByteSet) -> usize {
+    let most = set.intersection(frequent).len();
+    set.len().saturating_add(most.saturating_mul(16))
 }
 
 /// The place of the set whose members are the least common, but for two places. Where there is no other, the first.
-fn rarest_but(sets: &[ByteSet], first: usize, second: usize) -> usize
+fn rarest_but(sets: &[ByteSet], frequent: &ByteSet, first: usize, second: usize) -> usize
     requires { 0 < length sets.now }
     ensures { result < length sets.now }
 {
     let mut rarest = 0;
     let mut least = usize::MAX;
     for place in 0..sets.len() {
-        let common = commonness(&sets[place]);
+        let common = commonness(&sets[place], frequent);
         if common < least && place != first && place != second {
             least = common;
             rarest = place;
@@ -82,9 +92,10 @@ impl Probes {
         ensures { AreProbesOf sets.now result }
     {
         let none = sets.len();
-        let first = rarest_but(sets, none, none);
-        let second = rarest_but(sets, first, none);
-        let third = rarest_but(sets, first, second);
+        let frequent = frequent_bytes();
+        let first = rarest_but(sets, &frequent, none, none);
+        let second = rarest_but(sets, &frequent, first, none);
+        let third = rarest_but(sets, &frequent, first, second);
         Probes {
             first: Probe::new(sets, first),
             second: Probe::new(sets, second),

@@ -1,12 +1,13 @@
 //! Rows of sets of bytes, one for each of the first places of a match, while they are made.
 
-ghost use Rattle.std.specs.Prelude.{◌≡◌};
+ghost use Rattle.std.specs.Prelude.{◌≡◌, length};
 ghost use Rattle.fancy_prefilter.specs.Rows.{HasFrom, Wider};
 
 use fancy_bytes::byte_set::ByteSet;
 use std::alloc::{AllocError, Global};
 
-/// A set of bytes tells something where it has at most so many that are ASCII: most texts have the others at most places.
+/// A set of bytes tells something where it has at most so many that are ASCII: most texts have the others at most places. Past ASCII it
+/// may have all, or at most so many that go on with a character: one of these stands after each byte that begins one.
 const FEW: usize = 16;
 
 /// So many sets without bytes.
@@ -21,6 +22,7 @@ pub fn empty_sets(alloc: Global, places: usize) -> Result<Vec<ByteSet>, AllocErr
 /// Adds bytes to each set from a number on; where that is told, to that one alone.
 pub fn add_bytes(sets: &mut Vec<ByteSet>, from: usize, exact: bool, bytes: &ByteSet)
     ensures wider { Wider sets.old.items sets.new.items }
+    ensures size { length sets.new.items ≡ length sets.old.items }
     ensures has { HasFrom sets.new.items from exact bytes.now }
 {
     let end = if exact {
@@ -33,21 +35,27 @@ pub fn add_bytes(sets: &mut Vec<ByteSet>, from: usize, exact: bool, bytes: &Byte
     }
 }
 
-/// How many of the bytes are ASCII.
-fn count_ascii(set: &ByteSet) -> usize {
+/// How many members the set has from the one byte on and before the other.
+fn count_between(set: &ByteSet, from: u8, to: u8) -> usize {
     let mut count = 0usize;
-    for byte in 0..128u32 {
-        if set.contains(byte as u8) {
+    for byte in from..to {
+        if set.contains(byte) {
             count = count.saturating_add(1);
         }
     }
     count
 }
 
+/// Whether the set tells something.
+fn is_telling(set: &ByteSet) -> bool {
+    count_between(set, 0, 0x80) <= FEW
+        && (count_between(set, 0x80, 0xC0) <= FEW || count_between(set, 0xC0, 0xFF) > 0)
+}
+
 /// Whether the sets tell more than the first of them alone: another has few bytes.
 pub fn are_telling(sets: &[ByteSet]) -> bool {
     for j in 1..sets.len() {
-        if count_ascii(&sets[j]) <= FEW {
+        if is_telling(&sets[j]) {
             return true;
         }
     }

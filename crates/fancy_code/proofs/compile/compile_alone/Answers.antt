@@ -24,6 +24,7 @@ returns c = record {
     starts = rw (c.in_ok-code.ensures.meaning, c.in_ok-code.ensures.prefilter) c.in_ok-prefilter.ensures.starts;
     opens = rw (c.in_ok-code.ensures.meaning, c.in_ok-code.ensures.prefilter) c.in_ok-prefilter.ensures.text;
     foretold = rw (c.in_ok-code.ensures.prefilter, c.in_ok-prefilter.ensures.window) tt;
+    lines = rw (c.in_ok-code.ensures.prefilter, c.in_ok-prefilter.ensures.lines) tt;
     branched = rw (c.in_ok-code.ensures.prefilter, c.in_ok-prefilter.ensures.branches) tt;
     anchored = λ e. absurd (true≢false (sym e ∙ ap (λ (f : Prefilter). f.only_at_start) c.in_ok-code.ensures.prefilter ∙ c.in_ok-prefilter.ensures.anchored));
   };
