@@ -26,7 +26,6 @@ use Rattle.fancy_machine.specs.declared.attempt.Attempt.{Attempt}
 use Rattle.fancy_machine.specs.Asked.{Serves}
 use Rattle.fancy_machine.specs.Front.{GoesPast, IsDeadRun, MayPass, marks_ahead, returns_ahead, returns_over}
 use Rattle.fancy_machine.specs.Runs.{Lacks, Stands}
-use Rattle.fancy_machine.proofs.PassLemmas.{misses_free}
 use Rattle.fancy_machine.proofs.MachineSearch.{admits, gone_counts, missed_here, through_here}
 
 -- a run without its first item
@@ -38,7 +37,6 @@ dead_rest l h end p m dead =
       inside = omega (arith, dead.inside);
       ends = subst (Lacks l.begins h) past dead.ends;
       stuck = subst (Lacks l.leaves h) past dead.stuck;
-      loop = dead.loop;
       apart = dead.apart;
       alone = dead.alone;
     }
@@ -56,9 +54,9 @@ module _ (code : List Instruction) (meaning : Meaning) (at : ℕ) (l : ToldSplit
       (opened any (n + 0) (n + suc 0) (join o p) (joined any n n 0 0 o p item out))))
 
   -- where a byte stands that is none of these, the way dies
-  dies_first : (d p : ℕ) (s : State) (v : List ℕ) → p ≡ s.place → l.is_loop ≡ true → Lacks l.begins x.haystack p → Costs 0 0 (run x limit code d l.first s v)
-  dies_first d p s v e loop lacks =
-      misses_free code meaning at l is loop lacks.0 lacks.2 lacks.3 x limit d s v meant (record { here = subst (λ (k : ℕ). slice_get x.haystack k ≡ Some lacks.0) e lacks.1; before = tt })
+  dies_first : (d p : ℕ) (s : State) (v : List ℕ) → p ≡ s.place → Lacks l.begins x.haystack p → Costs 0 0 (run x limit code d l.first s v)
+  dies_first d p s v e lacks =
+      is.misses lacks.0 lacks.2 lacks.3 x limit d s v meant (record { here = subst (λ (k : ℕ). slice_get x.haystack k ≡ Some lacks.0) e lacks.1; before = tt })
 
   dies_out : (d p : ℕ) (s : State) (v : List ℕ) → p ≡ s.place → Lacks l.leaves x.haystack p → Costs 0 0 (run x limit code d l.second s v)
   dies_out d p s v e lacks =
@@ -79,7 +77,7 @@ module _ (code : List Instruction) (meaning : Meaning) (at : ℕ) (l : ToldSplit
   pub run_costs : (n d end : ℕ) (s : State) (v : List ℕ) → IsDeadRun l x.haystack end s.place n → end ≤ limit → Costs (n + 1) (n + 1) (run x limit code d at s v)
   run_costs n zero end s v dead le = tt
   run_costs zero (suc d) end s v dead le =
-      turn 0 d s v (dies_first d (s.place + 0) s v (omega arith) dead.loop dead.ends) (dies_out d (s.place + 0) s v (omega arith) dead.stuck)
+      turn 0 d s v (dies_first d (s.place + 0) s v (omega arith) dead.ends) (dies_out d (s.place + 0) s v (omega arith) dead.stuck)
   run_costs (suc m) (suc zero) end s v dead le = turn (suc m) 0 s v tt tt
   run_costs (suc m) (suc (suc d)) end s v dead le =
       let here = dead.items 0 (omega arith) in

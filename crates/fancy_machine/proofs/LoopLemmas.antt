@@ -1,5 +1,5 @@
--- An attempt at a choice that is told: what it seeks once it read the items of a loop, or passed over a way that dies.
-use Rattle.std.proofs.Common.{true≢false, ◌^◌, ◌≡◌, ℕ, suc, ◌+◌, ◌-◌, ◌<◌, ◌≤◌, Bool, true, false, List, [], Option, Some, None, refl, sym, ap, ap₂, ◌∙◌, subst, arith}
+-- An attempt at a loop that is told: what it seeks once it read the items.
+use Rattle.std.proofs.Common.{◌≡◌, ℕ, suc, ◌+◌, ◌-◌, ◌<◌, ◌≤◌, Bool, true, false, List, [], Option, Some, None, refl, sym, ap, ap₂, ◌∙◌, subst, arith}
 use Rattle.std.specs.Prelude.{if◌then◌else◌}
 use Rattle.fancy_code.specs.Context.{Context, State}
 use Rattle.fancy_code.specs.Code.{instrs_of}
@@ -16,19 +16,6 @@ use Rattle.fancy_machine.specs.Machine.{finish, left, at_instr, at_place, saved_
 use Rattle.fancy_machine.specs.Runs.{DieFrom, IsRun, past_items}
 use Rattle.fancy_machine.proofs.PassLemmas.{Passed, passed_none, passed_then, read_on, gone_back, gone_dead, saved_by_run, seeks_on, fewer_on, returns_to_come, choices_to_come}
 use Rattle.fancy_machine.proofs.CloseLemmas.{alone_items, closed}
-
--- no items were read at a choice, and its first way may go on
-pub no_items : (l : ToldSplit) (haystack : List ℕ) (h : Held) → h.now.state.place < 2 ^ 64 → IsRun l haystack h (record { count = 0; is_stuck = false; closes = false })
-no_items l haystack h fits = record {
-  items = λ k lt. absurd (omega (arith, lt));
-  inside = omega arith;
-  fits = omega (arith, fits);
-  short = omega arith;
-  stuck = λ e. absurd (true≢false (sym e));
-  goes = λ e some. absurd (omega (arith, some));
-  closes = λ e. absurd (true≢false (sym e));
-  stays = λ e some. absurd (omega (arith, some));
-}
 
 -- an attempt that stands at a choice, and read ahead there
 module _ (a : Attempt) (l : ToldSplit) (h : Held) (run : Run) (is : IsToldSplit (instrs_of a.code.now) a.code.now.meaning h.now.at l) (read : IsRun l a.haystack.now h run) (best : Option State) where

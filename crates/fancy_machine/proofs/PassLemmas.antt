@@ -4,7 +4,6 @@ use Rattle.std.specs.Prelude.{slice_get}
 use Rattle.std.proofs.lemmas.Option.{same_Some, slice_get-get_or}
 use Rattle.std.proofs.lemmas.Bool.{cases_eq}
 use Rattle.fancy_bytes.specs.Sets.{member}
-use Rattle.fancy_tree.specs.declared.tree.Meaning.{Meaning}
 use Rattle.fancy_code.specs.Context.{Context, State}
 use Rattle.fancy_code.specs.Instructions.{Instruction}
 use Rattle.fancy_code.specs.Instructions as i
@@ -14,8 +13,8 @@ use Rattle.fancy_code.specs.Thread.{size_of}
 use Rattle.fancy_code.proofs.RunMore.{run_more}
 use Rattle.fancy_prices.specs.declared.splits.ToldSplit.{ToldSplit}
 use Rattle.fancy_prices.specs.declared.splits.Splits.{Splits}
-use Rattle.fancy_prices.specs.declared.splits.ToldPart.TheVariants.{Choice}
-use Rattle.fancy_prices.specs.Splits.{AreApart, DiesPast, IsToldSplit, IsNoted, LeavesAt, ReadsByte, byte_alone}
+use Rattle.fancy_prices.specs.declared.splits.ToldPart.TheVariants.{Loop}
+use Rattle.fancy_prices.specs.Splits.{AreApart, DiesPast, IsToldSplit, IsNoted, PassesOver, ReadsByte, byte_alone}
 use Rattle.fancy_prices.specs.Prices.{Costs, MissesIn, Dies}
 use Rattle.fancy_code.specs.Code.{instrs_of}
 use Rattle.fancy_machine.specs.declared.attempt.Attempt.{Attempt}
@@ -56,12 +55,6 @@ passed_mark w rest e = subst (λ (l : List Raw). Passed 1 0 l rest) (sym e)
 passed_return : (w rest : List Raw) → w ≡ Note returned ∷ rest → Passed 0 1 w rest
 passed_return w rest e = subst (λ (l : List Raw). Passed 0 1 l rest) (sym e)
     (record { answer = λ l ok b. refl; returned_so = λ ok. omega arith; marked_so = λ ok. omega arith; shorter = omega arith })
-
--- the first way of a loop costs nothing where it dies
-pub misses_free : (code : List Instruction) (meaning : Meaning) (at : ℕ) (l : ToldSplit) → IsToldSplit code meaning at l → l.is_loop ≡ true → LeavesAt code meaning l.begins l.first
-misses_free code meaning at l is loop b lt lacks =
-    let f = is.free loop in
-    subst (λ (m : ℕ). Dies code meaning (byte_alone b) m 0 l.first) f.0 (subst (λ (r : ℕ). Dies code meaning (byte_alone b) l.price.marks r l.first) f.1 (is.misses b lt lacks))
 
 module _ (cx : Context) (code : List Instruction) (deep : ℕ) where
   abbrev go : ℕ → Go
@@ -109,16 +102,22 @@ module _ (cx : Context) (code : List Instruction) (deep : ℕ) where
   costly_back m r (Stop q s v ∷ u) c fs o w h = absurd (true≢false c.0)
 
   -- the same where nothing was saved for it
-  free_dead : (u : List Raw) → MissesIn any 0 0 u → (fs : List Frame) (w : List Raw) → finish go fs (Some u) ≡ Some w
-      → (rest : List Raw) × (finish go fs (Some []) ≡ Some rest) × Passed 0 0 w rest
-  free_dead [] c fs w h = (w, h, passed_none w)
-  free_dead (Note fetched ∷ u) c fs w h =
+  costly_dead : (m r : ℕ) (u : List Raw) → MissesIn any m r u → (fs : List Frame) (w : List Raw) → finish go fs (Some u) ≡ Some w
+      → (rest : List Raw) × (finish go fs (Some []) ≡ Some rest) × Passed m r w rest
+  costly_dead m r [] c fs w h = (w, h, passed_then (passed_none w) (passed_none w) (omega (arith, c.0)) (omega (arith, c.1)))
+  costly_dead m r (Note fetched ∷ u) c fs w h =
       let v = before_some (Note fetched) _ w (sym (finish_note go fs fetched (Some u)) ∙ h) in
-      let t = free_dead u c fs v.0 v.1 in
+      let t = costly_dead m r u c fs v.0 v.1 in
       (t.0, t.1, passed_then (passed_fetch w v.0 v.2) t.2 (omega arith) (omega arith))
-  free_dead (Note choice_opened ∷ u) c fs w h = absurd (omega (arith, c.1))
-  free_dead (Note returned ∷ u) c fs w h = absurd (omega (arith, c.1))
-  free_dead (Stop q s v ∷ u) c fs w h = absurd (true≢false c.0)
+  costly_dead m r (Note choice_opened ∷ u) c fs w h =
+      let v = before_some (Note choice_opened) _ w (sym (finish_note go fs choice_opened (Some u)) ∙ h) in
+      let t = costly_dead c.0 r u c.2 fs v.0 v.1 in
+      (t.0, t.1, passed_then (passed_mark w v.0 v.2) t.2 (omega (arith, c.1)) (omega arith))
+  costly_dead m r (Note returned ∷ u) c fs w h =
+      let v = before_some (Note returned) _ w (sym (finish_note go fs returned (Some u)) ∙ h) in
+      let t = costly_dead m c.0 u c.2 fs v.0 v.1 in
+      (t.0, t.1, passed_then (passed_return w v.0 v.2) t.2 (omega arith) (omega (arith, c.1)))
+  costly_dead m r (Stop q s v ∷ u) c fs w h = absurd (true≢false c.0)
 
   -- a way that dies where a byte stands
   pub costs : (m r : ℕ) (y : Spot) (b : ℕ) (u : List Raw) → Dies code cx.meaning (byte_alone b) m r y.at → slice_get cx.haystack y.state.place ≡ Some b → after go y ≡ Some u → MissesIn any m r u
@@ -135,29 +134,40 @@ module _ (cx : Context) (code : List Instruction) (deep : ℕ) where
       → slice_get cx.haystack y.state.place ≡ Some b → (rest : List Raw) × (left go z fs ≡ Some rest) × Passed 0 1 w rest
   at_dead_end y z fs w b known dies here = at_end 0 0 y z fs w known (λ u is. costs 0 0 y b u dies here is)
 
-  pub at_last_end : (y : Spot) (fs : List Frame) (w : List Raw) (b : ℕ) → left go y fs ≡ Some w → Dies code cx.meaning (byte_alone b) 0 0 y.at
-      → slice_get cx.haystack y.state.place ≡ Some b → (rest : List Raw) × (finish go fs (Some []) ≡ Some rest) × Passed 0 0 w rest
-  at_last_end y fs w b known dies here =
+  pub at_last_end : (m r : ℕ) (y : Spot) (fs : List Frame) (w : List Raw) (b : ℕ) → left go y fs ≡ Some w → Dies code cx.meaning (byte_alone b) m r y.at
+      → slice_get cx.haystack y.state.place ≡ Some b → (rest : List Raw) × (finish go fs (Some []) ≡ Some rest) × Passed m r w rest
+  at_last_end m r y fs w b known dies here =
       let k = finish_known go fs (after go y) w known in
-      free_dead k.0 (costs 0 0 y b k.0 dies here k.1) fs w (sym (ap (finish go fs) k.1) ∙ known)
+      costly_dead m r k.0 (costs m r y b k.0 dies here k.1) fs w (sym (ap (finish go fs) k.1) ∙ known)
 
   -- the branch that was saved last dies where a byte stands
   pub branch_dies : (y : Spot) (fs : List Frame) (w : List Raw) (b : ℕ) → finish go (Saved y ∷ fs) (Some []) ≡ Some w → Dies code cx.meaning (byte_alone b) 0 0 y.at
       → slice_get cx.haystack y.state.place ≡ Some b → (rest : List Raw) × (finish go fs (Some []) ≡ Some rest) × Passed 0 1 w rest
   branch_dies y fs w b known dies here =
       let t = take_branch go fs (after go y) w (sym (ap (finish go fs) (join_nothing (after go y))) ∙ known) in
-      let last = at_last_end y fs t.0 b t.1 dies here in
+      let last = at_last_end 0 0 y fs t.0 b t.1 dies here in
       (last.0, last.1, passed_then (passed_return w t.0 t.2) last.2 (omega arith) (omega arith))
 
   -- the first way of a choice, where it is stuck
   pub stuck_costs : (l : ToldSplit) (at : ℕ) → IsToldSplit code cx.meaning at l → (y : Spot) → y.at ≡ l.first → IsStuck l cx.haystack y.limit y.state.place
       → (u : List Raw) → after go y ≡ Some u → MissesIn any 0 0 u
   stuck_costs l at is y first stuck u e =
-      elim stuck.1 [
+      elim stuck [
         | inl lacks ↦
-            costs 0 0 y lacks.0 u (subst (Dies code cx.meaning (byte_alone lacks.0) 0 0) (sym first) (misses_free code cx.meaning at l is stuck.0 lacks.0 lacks.2 lacks.3)) lacks.1 e
-        | inr past ↦ subst (Costs 0 0) e (subst (DiesPast code) (sym first) (is.ends stuck.0) cx y.limit deep y.state y.starts past)
+            costs 0 0 y lacks.0 u (subst (Dies code cx.meaning (byte_alone lacks.0) 0 0) (sym first) (is.misses lacks.0 lacks.2 lacks.3)) lacks.1 e
+        | inr past ↦ subst (Costs 0 0) e (subst (DiesPast code) (sym first) is.ends cx y.limit deep y.state y.starts past)
       ]
+
+  -- choices are passed over
+  pub over : (b n m r q to : ℕ) → PassesOver code cx.meaning b n m r q to → (y : Spot) → y.at ≡ q → slice_get cx.haystack y.state.place ≡ Some b → (fs : List Frame) (w : List Raw) → left go y fs ≡ Some w
+      → (rest : List Raw) × (left go (at_instr to y) fs ≡ Some rest) × Passed m r w rest
+  over b zero m r q to p y at here fs w known =
+      (w, subst (λ (t : ℕ). left go (at_instr t y) fs ≡ Some w) (at ∙ p.2) known, passed_then (passed_none w) (passed_none w) (omega (arith, p.0)) (omega (arith, p.1)))
+  over b (suc n) m r q to p y at here fs w known =
+      let met = at_split y fs w p.0 p.1 known (ap (instr_at code) at ∙ p.2) in
+      let end = at_end p.3 p.4 (at_instr p.0 y) (at_instr p.1 y) fs met.0 met.1 (λ u e. costs p.3 p.4 (at_instr p.0 y) b u p.5 here e) in
+      let more = over b n p.6 p.7 p.1 to p.8 (at_instr p.1 y) refl here fs end.0 end.1 in
+      (more.0, more.1, passed_then (passed_then met.2 end.2 refl refl) more.2 (omega (arith, p.9)) (omega (arith, p.10)))
 
   module _ (l : ToldSplit) (x : Spot) (fs : List Frame) (is : IsToldSplit code cx.meaning x.at l) where
     -- at the loop, and at what follows it, after so many items
@@ -232,7 +242,7 @@ module _ (cx : Context) (code : List Instruction) (deep : ℕ) where
     gone_dead n w known alone items fits stuck dies =
         let back = gone_back n 0 (omega arith) w known alone items fits stuck (λ i low high. dies i high) in
         let d = dies 0 (omega arith) in
-        let last = at_last_end (rest_of 0) fs back.0 d.0 back.1 (is.leaves d.0 d.2 d.3) d.1 in
+        let last = at_last_end 0 0 (rest_of 0) fs back.0 d.0 back.1 (is.leaves d.0 d.2 d.3) d.1 in
         (last.0, last.1, passed_then back.2 last.2 (omega arith) (omega arith))
 
 -- a run saves a branch at each of its places
@@ -327,7 +337,7 @@ run_inside splits h r at p l known noted same low high k lt =
     let e : r.from + (p - r.from + k) ≡ p + k = omega (arith, low) in
     subst (Stands l.items h) e (known l (subst (λ (q : ℕ). IsNoted splits q l) (sym same) noted) (p - r.from + k) (omega (arith, low, high, lt)))
 
-same_choice : (l m : ToldSplit) → Choice l ≡ Choice m → l ≡ m
+same_choice : (l m : ToldSplit) → Loop l ≡ Loop m → l ≡ m
 same_choice l m e = cc
 
 -- one loop at most is noted for an instruction

@@ -16,7 +16,6 @@ pub record IsDeadRun (l : ToldSplit) (haystack : List ℕ) (end place n : ℕ) :
   pub inside : place + n ≤ end
   pub ends : Lacks l.begins haystack (place + n)
   pub stuck : Lacks l.leaves haystack (place + n)
-  pub loop : l.is_loop ≡ true
   pub apart : l.apart ≡ true
   pub alone : l.group ≡ None
 

@@ -4,6 +4,7 @@ pub mod Layers
 pub mod Moves
 pub mod Machine
 pub mod Attempt
+pub mod Choices
 pub mod Parts
 pub mod Asked
 pub mod Units

@@ -1,5 +1,5 @@
 -- What the parts of an attempt do, what they count, and why they are refused.
-use Rattle.std.specs.Prelude.{◌≡◌, ◌≢◌, ℕ, ◌+◌, ◌-◌, ◌≤◌, true, Option, Result, Err, IfOk, IfErr}
+use Rattle.std.specs.Prelude.{◌≡◌, ◌≢◌, ℕ, ◌+◌, ◌-◌, ◌≤◌, Option, Result, Err, IfOk, IfErr}
 use Rattle.fancy_input.specs.declared.refusal.SearchRefusal.{SearchRefusal}
 use Rattle.fancy_input.specs.declared.refusal.SearchRefusal.TheVariants.{Memory, Returns, Choices, Steps}
 use Rattle.fancy_input.specs.declared.work.Work.{Work}
@@ -43,10 +43,9 @@ pub record FollowsNext (a : Attempt) (result : Result Next SearchRefusal) (old n
   pub crowded : result ≡ Err Choices → IsFull a old
   pub most : new.most ≡ old.most
 
--- The choice is the one that is noted for the instruction which comes next, and a loop. What is remembered of the run that was read last is true.
+-- The loop is the one that is noted for the instruction which comes next. What is remembered of the run that was read last is true.
 pub record StandsAt (a : Attempt) (l : ToldSplit) (h : Held) (r : LastRun) : Type 0 where
   pub noted : IsNoted a.splits.now h.now.at l
-  pub loop : l.is_loop ≡ true
   pub known : KnowsRun a.splits.now a.haystack.now r
 
 -- The limit of steps is heeded: no more is done than it allows, and all of that where the answer is that refusal.

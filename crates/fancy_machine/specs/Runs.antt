@@ -19,7 +19,7 @@ Lacks bytes haystack p = (b : ℕ) × (slice_get haystack p ≡ Some b) × (b < 
 
 -- the first way of a loop dies at a place, where consumed text ends by a limit: a byte tells it, or nothing is consumed any more
 abbrev pub IsStuck : ToldSplit → List ℕ → ℕ → ℕ → Type 0
-IsStuck l haystack limit p = (l.is_loop ≡ true) × (Lacks l.begins haystack p ⊎ IsPast haystack limit p)
+IsStuck l haystack limit p = Lacks l.begins haystack p ⊎ IsPast haystack limit p
 
 -- the way past an item of one byte, in a group if there is one
 abbrev pub past_one : Option ℕ → Spot → Spot

@@ -65,7 +65,7 @@ fn read_whole(
     let Some(next) = split.stop else {
         return Ok(None);
     };
-    if !split.is_loop || split.group.is_some() {
+    if split.group.is_some() {
         return Ok(None);
     }
     let count = read_run(attempt, split, trail, last_run, work)?;

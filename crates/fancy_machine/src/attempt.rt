@@ -1,17 +1,19 @@
 //! One attempt: a walk through the code from a position, which goes back to the saved branches.
 
-ghost use Rattle.std.specs.Prelude.{◌≡◌, ◌≢◌, ◌+◌, ◌-◌, ◌<◌, ◌≤◌, [], ℕ, Err, IfOk, OnOk};
+ghost use Rattle.std.specs.Prelude.{◌≡◌, ◌≢◌, ◌+◌, ◌-◌, ◌<◌, ◌≤◌, [], ℕ, Option, Err, IfOk, OnOk};
 ghost use Rattle.fancy_tree.specs.Pattern.{Pattern};
 ghost use Rattle.fancy_input.specs.LastLines.{KnowsLastLines};
 ghost use Rattle.fancy_code.specs.Queries.{query_of};
 ghost use Rattle.fancy_code.specs.Search.{continues_from};
 ghost use Rattle.fancy_input.specs.Work.{returns_of, AddsReturns};
 ghost use Rattle.fancy_code.specs.Thread.{IsKnown};
-ghost use Rattle.fancy_prices.specs.Splits.{AreSplits};
+ghost use Rattle.fancy_prices.specs.Splits.{AreSplits, IsPart};
+ghost use Rattle.fancy_code.specs.Context.{State};
 ghost use Rattle.fancy_prices.specs.Once.{splits_once};
 
 use crate::atoms::pass_atom;
 use crate::best::Best;
+use crate::choice::choose;
 use crate::runs::pass;
 use crate::seen::Seen;
 use crate::step::step;
@@ -146,6 +148,31 @@ impl<'a> Attempt<'a> {
         }
     }
 
+    /// Goes on at an instruction of which something is told. A loop or an atomic group reads all items that stand.
+    fn pass_part(
+        &self,
+        part: &ToldPart,
+        trail: &mut Trail,
+        limit: usize,
+        seen: &mut Seen,
+        work: &mut Work,
+    ) -> Result<Next, SearchRefusal>
+        requires part { IsPart self.now.splits.now trail.old.now.at part.now }
+        requires ready { IsReady self.now limit seen.old work.old }
+        ensures went { (best : Option State) → WentOn self.now limit result
+            trail.old best trail.new best work.old work.new }
+        ensures counts { CountsGoing limit self.now.options.step_limit result work.old work.new }
+        ensures seen { KnowsSeen self.now seen.new }
+    {
+        match part {
+            ToldPart::Loop(split) => pass(self, split, trail, limit, &mut seen.last_run, work),
+            ToldPart::Choice(choice) => choose(self, choice, trail, limit, work),
+            ToldPart::Atom(atom) => {
+                pass_atom(self, atom, trail, limit, &mut seen.last_run, work)
+            }
+        }
+    }
+
     /// Goes on: by a choice or an atomic group that is told, with all items that it reads, or by one instruction. The returns that it
     /// takes are added to those of `work`, and none is taken past the limit.
     fn advance(
@@ -162,11 +189,8 @@ impl<'a> Attempt<'a> {
         ensures counts { CountsGoing limit self.now.options.step_limit result work.old work.new }
         ensures seen { KnowsSeen self.now seen.new }
     {
-        if let Some(split) = self.splits.at(trail.at()) {
-            return pass(self, split, trail, limit, &mut seen.last_run, work);
-        }
-        if let Some(ToldPart::Atom(atom)) = self.splits.part(trail.at()) {
-            return pass_atom(self, atom, trail, limit, &mut seen.last_run, work);
+        if let Some(part) = self.splits.part(trail.at()) {
+            return self.pass_part(part, trail, limit, seen, work);
         }
         self.turn(trail, best, &mut seen.last_lines, work)
     }

@@ -1,10 +1,15 @@
-//! The instructions that save a branch or open a region.
+//! The instructions that save a branch or open a region, and choices of which bytes tell where they lead.
 
-ghost use Rattle.std.specs.Prelude.{length};
+ghost use Rattle.std.specs.Prelude.{◌≤◌, Option, length};
+ghost use Rattle.fancy_code.specs.Code.{instrs_of};
+ghost use Rattle.fancy_code.specs.Context.{State};
+ghost use Rattle.fancy_input.specs.Work.{returns_of};
+ghost use Rattle.fancy_prices.specs.Splits.{IsToldChoice};
+ghost use Rattle.fancy_machine.specs.Choices.{IsTaken};
 ghost use Rattle.fancy_machine.specs.declared.attempt.Attempt.{Attempt as AttemptIs};
 ghost use Rattle.fancy_machine.specs.Machine.{within_at};
 ghost use Rattle.fancy_machine.specs.Moves.{GoesOn};
-ghost use Rattle.fancy_machine.specs.Parts.{FollowsIfOk, FollowsInMemory};
+ghost use Rattle.fancy_machine.specs.Parts.{CountsGoing, FollowsIfOk, FollowsInMemory, WentOn};
 
 use crate::attempt::Attempt;
 use crate::layer::Kind;
@@ -12,6 +17,9 @@ use crate::trail::Trail;
 use fancy_code::code::Instr;
 use fancy_code::step::Next;
 use fancy_input::refusal::SearchRefusal;
+use fancy_input::work::Work;
+use fancy_prices::choices::{Onward, Passage, ToldChoice};
+use fancy_prices::price::Price;
 
 /// Saves the second of two ways, and goes on by the first.
 pub(crate) fn split(trail: &mut Trail, first: usize, second: usize) -> Result<Next, SearchRefusal>
@@ -84,4 +92,58 @@ pub(crate) fn begin_denial(
     trail.save(Kind::Denial(behind), next)?;
     enter_body(attempt, trail, body);
     Ok(Next::On)
+}
+
+/// The passage of the byte that stands at a place, where so many branches may be saved: else it is the choice by itself.
+fn passage_at(choice: &ToldChoice, attempt: &Attempt, trail: &Trail) -> Passage
+    ensures { IsTaken attempt.now choice.now trail.now.now.state.place result }
+{
+    let own = Passage {
+        price: Price {
+            marks: 0,
+            returns: 0,
+        },
+        onward: Onward::Splits(choice.first, choice.second),
+    };
+    let Some(byte) = attempt.haystack.get(trail.place()) else {
+        return own;
+    };
+    match choice.passage(*byte) {
+        Some(passage) if trail.has_room_for(passage.price.marks as usize + 1) => *passage,
+        _ => own,
+    }
+}
+
+/// Goes on at a choice, where the byte leads that stands there. Choices whose first ways die are passed over together, and their
+/// returns are counted.
+pub(crate) fn choose(
+    attempt: &Attempt,
+    choice: &ToldChoice,
+    trail: &mut Trail,
+    limit: usize,
+    work: &mut Work,
+) -> Result<Next, SearchRefusal>
+    requires told { IsToldChoice (instrs_of attempt.now.code.now) attempt.now.code.now.meaning
+        trail.old.now.at choice.now }
+    requires room { returns_of work.old ≤ limit }
+    ensures went { (best : Option State) → WentOn attempt.now limit result
+        trail.old best trail.new best work.old work.new }
+    ensures counts { CountsGoing limit attempt.now.options.step_limit result work.old work.new }
+{
+    work.count_step_within();
+    let passage = passage_at(choice, attempt, trail);
+    let returns = passage.price.returns as usize;
+    work.count_returns(returns, limit, attempt.options.step_limit)?;
+    match passage.onward {
+        Onward::Ends => Ok(Next::Dead),
+        Onward::Goes(to) => {
+            trail.go(to);
+            Ok(Next::On)
+        }
+        Onward::Splits(first, second) => {
+            trail.save(Kind::Branch, second)?;
+            trail.go(first);
+            Ok(Next::On)
+        }
+    }
 }

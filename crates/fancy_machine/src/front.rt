@@ -25,7 +25,7 @@ fn items_of_dead_run(
 {
     let past = last_run.past_of(front.at, position)?;
     let split = attempt.splits.at(front.at)?;
-    if past > end || !split.is_loop || !split.apart || split.group.is_some() {
+    if past > end || !split.apart || split.group.is_some() {
         return None;
     }
     if may_begin(split, attempt.haystack, past) || may_leave(split, attempt.haystack, past) {

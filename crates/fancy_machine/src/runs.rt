@@ -1,5 +1,5 @@
-//! Choices of which bytes tell that a way dies at once: it is passed over, and counted. Where such a choice is a loop of one item, all
-//! items that stand are read in one step. Where what follows the loop closes a region, as in a possessive repeat, no branch is saved.
+//! Loops of one item: all items that stand are read in one step. Ways that die at once, as bytes tell, are passed over, and counted.
+//! Where what follows the loop closes a region, as in a possessive repeat, no branch is saved.
 
 ghost use Rattle.std.specs.Prelude.{◌≡◌, ◌+◌, ◌-◌, ◌^◌, ◌<◌, ◌≤◌, ◌⊎◌, ℕ, List, if◌then◌else◌, true, false, length, IfOk, IfSome, Option};
 ghost use Rattle.fancy_code.specs.Context.{State};
@@ -47,7 +47,6 @@ pub(crate) fn may_begin(split: &ToldSplit, haystack: &[u8], place: usize) -> boo
 
 /// Whether an item of a loop may stand at a place, where consumed text ends by a limit: none does where nothing is consumed any more.
 pub(crate) fn may_stand(split: &ToldSplit, haystack: &[u8], limit: usize, place: usize) -> bool
-    requires { split.now.is_loop ≡ true }
     ensures { result ≡ false → IsStuck split.now haystack.now limit place }
 {
     let is_past = limit <= place || haystack.len() <= place;
@@ -228,39 +227,7 @@ fn read_ahead(
     })
 }
 
-/// Goes on at a choice that is told and is no loop. Where bytes tell that a way dies it is passed over, with the choices that it opens:
-/// so it is where all of them may be saved.
-fn choose(
-    attempt: &Attempt,
-    split: &ToldSplit,
-    trail: &mut Trail,
-    limit: usize,
-    work: &mut Work,
-) -> Result<Next, SearchRefusal>
-    requires noted { IsNoted attempt.now.splits.now trail.old.now.at split.now }
-    requires room { returns_of work.old ≤ limit }
-    ensures went { (best : Option State) → WentOn attempt.now limit result
-        trail.old best trail.new best work.old work.new }
-    ensures counts { CountsGoing limit attempt.now.options.step_limit result work.old work.new }
-{
-    work.count_step_within();
-    let place = trail.place();
-    let saved = split.price.marks as usize + 1;
-    if may_begin(split, attempt.haystack, place) || !trail.has_room_for(saved) {
-        trail.save_run(split.second, place, 1)?;
-        trail.go(split.first);
-        return Ok(Next::On);
-    }
-    let returns = split.price.returns as usize + 1;
-    work.count_returns(returns, limit, attempt.options.step_limit)?;
-    if !may_leave(split, attempt.haystack, place) {
-        return Ok(Next::Dead);
-    }
-    trail.go(split.second);
-    Ok(Next::On)
-}
-
-/// Goes on at a choice that is told. A loop reads all items that stand, and saves a branch at each place. Where the first way dies, it
+/// Goes on at a loop: it reads all items that stand, and saves a branch at each place. Where the first way dies, it
 /// goes back to the last place at which the second one may go on. That is the last place of all where the second way closes the region
 /// that it stands in, and then no branch is saved, since none would be taken.
 pub(crate) fn pass(
@@ -279,9 +246,6 @@ pub(crate) fn pass(
     ensures counts { CountsGoing limit attempt.now.options.step_limit result work.old work.new }
     ensures known { KnowsRun attempt.now.splits.now attempt.now.haystack.now last_run.new }
 {
-    if !split.is_loop {
-        return choose(attempt, split, trail, limit, work);
-    }
     work.count_step_within();
     let read = read_ahead(attempt, split, trail, last_run, work)?;
     let from = trail.place();

@@ -9,7 +9,7 @@ use Rattle.fancy_code.specs.Instructions.{Instruction, Open, Split}
 use Rattle.fancy_code.specs.Run.{Note, choice_opened, fetched, before, join, act, instr_at, run}
 use Rattle.fancy_prices.specs.declared.splits.ToldSplit.{ToldSplit}
 use Rattle.fancy_prices.specs.declared.splits.Splits.{Splits}
-use Rattle.fancy_prices.specs.declared.splits.ToldPart.TheVariants.{Choice}
+use Rattle.fancy_prices.specs.declared.splits.ToldPart.TheVariants.{Loop}
 use Rattle.fancy_prices.specs.Prices.{Costs, Dies}
 use Rattle.fancy_prices.specs.Splits.{IsNoted, ReadsByte, ReadsEach, byte_alone}
 use Rattle.fancy_prices.specs.Front.{DiesAtEach, Leads, LeadsBy}
@@ -66,7 +66,7 @@ module _ (code : List Instruction) (meaning : Meaning) (set : ByteFlags) (q to :
   pub each_read : (items : ByteFlags) → ((b : ℕ) → b < 256 → member set b ≡ true → member items b ≡ true) → ReadsEach code meaning items q to → Leads code meaning set 0 0 q to
   each_read items among reads b lt is = leads_read code meaning b q to (reads b lt (among b lt is))
 
-same_choice : (l m : ToldSplit) → Choice l ≡ Choice m → l ≡ m
+same_choice : (l m : ToldSplit) → Loop l ≡ Loop m → l ≡ m
 same_choice l m e = cc
 
 -- one loop at most is noted for an instruction

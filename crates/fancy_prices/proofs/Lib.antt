@@ -11,3 +11,4 @@ pub mod PriceForms
 pub mod FoundBehind
 pub mod LoopLemmas
 pub mod FrontLemmas
+pub mod PassageLemmas

@@ -1,5 +1,5 @@
 -- The choices of code, and what bytes tell of their ways.
-use Rattle.std.specs.Prelude.{◌≡◌, ℕ, suc, ◌+◌, ◌<◌, ◌≤◌, ◌⊎◌, Bool, true, false, List, [], ◌∷◌, length, Option, Some, None, slice_get, slice_index, slice_index_or, slice_set}
+use Rattle.std.specs.Prelude.{IfSome, ◌≡◌, ℕ, zero, suc, ◌+◌, ◌<◌, ◌≤◌, ◌⊎◌, Bool, true, false, List, [], ◌∷◌, length, Option, Some, None, slice_get, slice_index, slice_index_or, slice_set}
 use Rattle.fancy_tree.specs.declared.tree.Meaning.{Meaning}
 use Rattle.fancy_bytes.specs.Sets.{ByteFlags, member}
 use Rattle.fancy_code.specs.declared.code.Code.{Code}
@@ -9,12 +9,15 @@ use Rattle.fancy_code.specs.Instructions.{Instruction, Enter, Split}
 use Rattle.fancy_code.specs.Run.{Note, Stop, fetched, before, instr_at, run}
 use Rattle.fancy_prices.specs.declared.facts.Facts.{Facts}
 use Rattle.fancy_prices.specs.declared.atoms.ToldAtom.{ToldAtom}
+use Rattle.fancy_prices.specs.declared.choices.Onward.{Onward}
+use Rattle.fancy_prices.specs.declared.choices.Onward.TheVariants as o
+use Rattle.fancy_prices.specs.declared.choices.Passage.{Passage}
+use Rattle.fancy_prices.specs.declared.choices.ToldChoice.{ToldChoice}
 use Rattle.fancy_prices.specs.declared.splits.ToldSplit.{ToldSplit}
 use Rattle.fancy_prices.specs.declared.splits.ToldPart.{ToldPart}
-use Rattle.fancy_prices.specs.declared.splits.ToldPart.TheVariants.{Choice, Atom}
+use Rattle.fancy_prices.specs.declared.splits.ToldPart.TheVariants.{Loop, Choice, Atom}
 use Rattle.fancy_prices.specs.declared.splits.Splits.{Splits}
-use Rattle.fancy_prices.specs.declared.price.Price.{Price}
-use Rattle.fancy_prices.specs.Prices.{Costs, Dies, IsNothing}
+use Rattle.fancy_prices.specs.Prices.{Costs, Dies}
 
 -- an item of one byte
 abbrev pub single : ℕ → Unit_at
@@ -66,11 +69,7 @@ StopsAt code q next = (x : Context) (limit n : ℕ) (s : State) (v : List ℕ) �
 abbrev pub byte_alone : ℕ → Facts
 byte_alone b = record { here = b; before = None }
 
--- Where a byte stands that is not in the set, the code from q on dies, and costs so much.
-abbrev pub BeginsAt : List Instruction → Meaning → Price → ByteFlags → ℕ → Type 0
-BeginsAt code meaning price set q = (b : ℕ) → b < 256 → member set b ≡ false → Dies code meaning (byte_alone b) price.marks price.returns q
-
--- the same where it costs no mark and no return
+-- Where a byte stands that is not in the set, the code from q on dies, and costs no mark and no return.
 abbrev pub LeavesAt : List Instruction → Meaning → ByteFlags → ℕ → Type 0
 LeavesAt code meaning set q = (b : ℕ) → b < 256 → member set b ≡ false → Dies code meaning (byte_alone b) 0 0 q
 
@@ -78,17 +77,68 @@ LeavesAt code meaning set q = (b : ℕ) → b < 256 → member set b ≡ false �
 abbrev pub AreApart : ByteFlags → ByteFlags → Type 0
 AreApart set other = (b : ℕ) → b < 256 → member set b ≡ true → member other b ≡ false
 
--- At this instruction stands a choice. Where it has items, the first way reads each of them, in a group if there is one, and comes back.
+-- At this instruction stands a loop: the first way of a choice reads each item, in a group if there is one, and comes back.
 pub record IsToldSplit (code : List Instruction) (meaning : Meaning) (at : ℕ) (l : ToldSplit) : Type 0 where
   pub splits : instr_at code at ≡ Split l.first l.second
   pub reads : l.group ≡ None → ReadsEach code meaning l.items l.first at
   pub reads_in : (g : ℕ) → l.group ≡ Some g → ReadsEachIn code meaning l.items g l.first at
-  pub ends : l.is_loop ≡ true → DiesPast code l.first
+  pub ends : DiesPast code l.first
   pub stops : (next : ℕ) → l.stop ≡ Some next → StopsAt code l.second next
-  pub misses : BeginsAt code meaning l.price l.begins l.first
-  pub free : l.is_loop ≡ true → IsNothing l.price
+  pub misses : LeavesAt code meaning l.begins l.first
   pub leaves : LeavesAt code meaning l.leaves l.second
   pub apart : l.apart ≡ true → AreApart l.items l.leaves
+
+-- Where the byte b stands, n choices are passed over one after another from q on: the first way of each dies. So the code comes to `to`, with so many
+-- marks and returns.
+abbrev pub PassesOver : List Instruction → Meaning → ℕ → ℕ → ℕ → ℕ → ℕ → ℕ → Type 0
+PassesOver code meaning b zero m r q to = (m ≡ 0) × (r ≡ 0) × (q ≡ to)
+PassesOver code meaning b (suc n) m r q to =
+    (first : ℕ) × (second : ℕ) × (instr_at code q ≡ Split first second) × (i : ℕ) × (j : ℕ) × Dies code meaning (byte_alone b) i j first
+    × (k : ℕ) × (l : ℕ) × PassesOver code meaning b n k l second to × (m ≡ suc (i + k)) × (r ≡ j + suc l)
+
+-- Where the byte b stands, choices are passed over from q on, as far as one more: its second way begins at `second`, and on its first way choices are
+-- passed over as far as `first`. But for the mark of that one there are so many marks and returns.
+pub record SplitsOver (code : List Instruction) (meaning : Meaning) (b m r q first second : ℕ) : Type 0 where
+  pub before : ℕ
+  pub at : ℕ
+  pub way : ℕ
+  pub after : ℕ
+  pub marks_before : ℕ
+  pub returns_before : ℕ
+  pub marks_after : ℕ
+  pub returns_after : ℕ
+  pub leads : PassesOver code meaning b before marks_before returns_before q at
+  pub splits : instr_at code at ≡ Split way second
+  pub follows : PassesOver code meaning b after marks_after returns_after way first
+  pub marks : m ≡ marks_before + marks_after
+  pub returns : r ≡ returns_before + returns_after
+
+-- what a passage from q on does where the byte b stands
+abbrev pub Leads : List Instruction → Meaning → ℕ → ℕ → ℕ → Onward → ℕ → Type 0
+Leads code meaning b m r o.Ends q = Dies code meaning (byte_alone b) m r q
+Leads code meaning b m r (o.Goes to) q = ∥ ((n : ℕ) × PassesOver code meaning b n m r q to) ∥₁
+Leads code meaning b m r (o.Splits first second) q = ∥ SplitsOver code meaning b m r q first second ∥₁
+
+-- a passage that saves no way passes over a choice at least
+abbrev pub Passes : Onward → ℕ → Type 0
+Passes o.Ends m = 0 < m
+Passes (o.Goes to) m = 0 < m
+Passes (o.Splits first second) m = Unit {0}
+
+-- The passage with the number, if there is one, is that of the byte b from q on.
+abbrev pub LeadsBy : List Instruction → Meaning → List Passage → ℕ → ℕ → Option ℕ → Type 0
+LeadsBy code meaning passages q b number =
+    IfSome number (λ k. (p : Passage) × (slice_get passages k ≡ Some p) × Passes p.onward p.price.marks × Leads code meaning b p.price.marks p.price.returns p.onward q)
+
+-- the passage is noted for the byte
+abbrev pub IsPassage : ToldChoice → ℕ → Passage → Type 0
+IsPassage c b p = (k : ℕ) × (slice_index_or c.numbers b None ≡ Some k) × (slice_get c.passages.items k ≡ Some p)
+
+-- At this instruction stands a choice. Each byte leads from it as is noted.
+pub record IsToldChoice (code : List Instruction) (meaning : Meaning) (at : ℕ) (c : ToldChoice) : Type 0 where
+  pub splits : instr_at code at ≡ Split c.first c.second
+  pub leads : (b : ℕ) (p : Passage) → b < 256 → IsPassage c b p → Leads code meaning b p.price.marks p.price.returns p.onward at
+  pub passes : (b : ℕ) (p : Passage) → b < 256 → IsPassage c b p → Passes p.onward p.price.marks
 
 -- At this instruction an atomic group begins. Its body is a loop, or reads each of these items and goes on at a loop.
 pub record IsToldAtom (code : List Instruction) (meaning : Meaning) (at : ℕ) (a : ToldAtom) : Type 0 where
@@ -98,7 +148,8 @@ pub record IsToldAtom (code : List Instruction) (meaning : Meaning) (at : ℕ) (
 
 -- what is told of the instruction is so
 abbrev pub IsTold : List Instruction → Meaning → ℕ → ToldPart → Type 0
-IsTold code meaning at (Choice l) = IsToldSplit code meaning at l
+IsTold code meaning at (Loop l) = IsToldSplit code meaning at l
+IsTold code meaning at (Choice c) = IsToldChoice code meaning at c
 IsTold code meaning at (Atom a) = IsToldAtom code meaning at a
 
 -- each part that has a number stands at an instruction that it is noted for
@@ -109,9 +160,9 @@ AreNoted stands numbers parts = (at number : ℕ) (l : ToldPart) → slice_index
 abbrev pub IsPart : Splits → ℕ → ToldPart → Type 0
 IsPart l at o = (number : ℕ) × (slice_index_or l.numbers.items at None ≡ Some number) × (slice_get l.parts.items number ≡ Some o)
 
--- the choice is
+-- the loop is
 abbrev pub IsNoted : Splits → ℕ → ToldSplit → Type 0
-IsNoted l at o = IsPart l at (Choice o)
+IsNoted l at o = IsPart l at (Loop o)
 
 -- each part that is noted is one, at the instruction that it is noted for
 abbrev pub AreSplits : Splits → Code → Type 0

@@ -2,6 +2,7 @@
 #![tactic(auto)]
 
 pub mod atoms;
+pub mod choices;
 pub mod entries;
 mod facts;
 mod free;

@@ -7,7 +7,7 @@ ghost use Rattle.fancy_prices.specs.Prices.{IsNothing};
 const MOST: u8 = 32;
 
 /// What an attempt costs that finds nothing.
-#[derive(Clone, Copy)]
+#[derive(Clone, Copy, PartialEq, Eq)]
 pub struct Price {
     /// How many choices it opens.
     pub marks: u8,
@@ -52,16 +52,6 @@ impl Price {
         ensures { result ≡ true → IsNothing self }
     {
         self.marks == 0 && self.returns == 0
-    }
-
-    /// Whether this is the price that is told, if one is.
-    pub(crate) fn is_that(self, told: Option<Price>) -> bool
-        ensures { result ≡ true → told ≡ Some self }
-    {
-        match told {
-            Some(told) => told.marks == self.marks && told.returns == self.returns,
-            None => false,
-        }
     }
 
     /// The price, if it is nothing.

@@ -6,13 +6,12 @@ ghost use Rattle.fancy_bytes.specs.Sets.{IsSetOf, member};
 ghost use Rattle.fancy_code.specs.declared.code.Code.{Code};
 ghost use Rattle.fancy_code.specs.Code.{instrs_of};
 ghost use Rattle.fancy_code.specs.Instructions.{edges_in};
-ghost use Rattle.fancy_prices.specs.Prices.{Dies, IsNothing};
-ghost use Rattle.fancy_prices.specs.Splits.{AreApart, AreItems, AreSplits, BeginsAt, DiesPast, IsAlone, IsTold, IsToldSplit, IsNoted, IsPart, LeavesAt, ReadsEach, ReadsEachIn, StopsAt, byte_alone};
+ghost use Rattle.fancy_prices.specs.Splits.{AreApart, AreItems, AreSplits, DiesPast, IsAlone, IsTold, IsToldSplit, IsNoted, IsPart, LeavesAt, ReadsEach, ReadsEachIn, StopsAt};
 
 use crate::atoms::{ToldAtom, atom_at};
+use crate::choices::{ToldChoice, choice_at};
 use crate::facts::Facts;
-use crate::free::price_of;
-use crate::price::Price;
+use crate::free::is_free;
 use fancy_bytes::byte_set::ByteSet;
 use fancy_code::code::{Code, Instr};
 use fancy_tree::char_set::CharSet;
@@ -25,13 +24,12 @@ const MOST: usize = 128;
 /// How many instructions are followed one after another.
 const DEPTH: usize = 48;
 
-/// A choice of code, and at which bytes its ways may go on. It may be a loop of one item: its first way reads an item, by itself or in
-/// a group, and comes back to the choice.
+/// A loop of one item, and at which bytes its ways may go on. It is a choice whose first way reads an item, by itself or in a group, and
+/// comes back to the choice.
 ///
 /// ```text
 /// [a-z]*b    // its items are the bytes a to z, with which alone they begin; what follows may go on at the byte b alone
 /// (a)*+b     // its item is the byte a, in a group; what follows it closes the region of the possessive repeat
-/// a|b        // no loop; the first way may go on at the byte a alone, the second one at b alone
 /// ```
 #[derive(Drop)]
 pub struct ToldSplit {
@@ -39,20 +37,16 @@ pub struct ToldSplit {
     pub first: usize,
     /// The number of the one that the second way begins at, which is what follows a loop.
     pub second: usize,
-    /// Whether it is a loop of one item.
-    pub is_loop: bool,
-    /// The group that holds each item of the loop, if one does.
+    /// The group that holds each item, if one does.
     pub group: Option<usize>,
     /// Where the second way stops at once, as at the end of an atomic group, the number of the instruction at which what is round that
     /// goes on.
     pub stop: Option<usize>,
     /// Whether the second way cannot go on where an item of one byte stands.
     pub apart: bool,
-    /// What the first way costs where it is told that it dies. That of a loop costs nothing.
-    pub price: Price,
     // bytes that are an item by themselves
     items: ByteSet,
-    // bytes at which the first way may cost something else, or find a match
+    // bytes at which the first way may cost something, or find a match
     begins: ByteSet,
     // bytes at which the second way may cost something, or find a match
     leaves: ByteSet,
@@ -67,7 +61,7 @@ impl ToldSplit {
         self.items.contains(byte)
     }
 
-    /// Whether the first way may cost another price, or find a match, where the byte stands: an item of a loop may begin there.
+    /// Whether the first way may cost something, or find a match, where the byte stands: an item may begin there.
     #[inline]
     pub fn may_begin(&self, byte: u8) -> bool
         ensures { result ≡ member self.now.begins byte }
@@ -87,8 +81,10 @@ impl ToldSplit {
 /// What is told of an instruction of code.
 #[derive(Drop)]
 pub enum ToldPart {
-    /// A choice stands there.
-    Choice(ToldSplit),
+    /// A loop of one item stands there.
+    Loop(ToldSplit),
+    /// Another choice stands there.
+    Choice(ToldChoice),
     /// An atomic group begins there.
     Atom(ToldAtom),
 }
@@ -275,38 +271,17 @@ fn opens_choice(code: &Code, at: usize, deep: usize) -> bool {
     }
 }
 
-/// What the code from an instruction on costs where this byte stands and it dies. `None` where it is not told that it does.
-fn price_at(code: &Code, at: usize, here: u8) -> Option<Price>
-    ensures { IfSome result (λ p. Dies (instrs_of code.now) code.now.meaning (byte_alone here)
-        p.marks p.returns at) }
-{
-    let facts = Facts { here, before: None };
-    price_of(code, at, facts, DEPTH)
-}
-
-/// What the first way of a choice costs at the first byte at which it is told that it dies: nothing, where it reads an item of a loop.
-/// No answer rests on which of the prices it is.
-fn first_price(code: &Code, at: usize, is_loop: bool) -> Price
-    ensures { is_loop ≡ true → IsNothing result }
-{
-    if is_loop {
-        return Price::nothing();
-    }
-    for first in 0..256u32 {
-        if let Some(price) = price_at(code, at, first as u8) {
-            return price;
-        }
-    }
-    Price::nothing()
-}
-
-/// The bytes at which the code from an instruction on may cost another price, or find a match.
-fn begins_of(code: &Code, at: usize, price: Price) -> ByteSet
-    ensures { BeginsAt (instrs_of code.now) code.now.meaning price result at }
+/// The bytes at which the code from an instruction on may cost something, or find a match.
+fn begins_of(code: &Code, at: usize) -> ByteSet
+    ensures { LeavesAt (instrs_of code.now) code.now.meaning result at }
 {
     let mut bytes = ByteSet::new();
     for here in 0..256u32 {
-        if !price.is_that(price_at(code, at, here as u8)) {
+        let facts = Facts {
+            here: here as u8,
+            before: None,
+        };
+        if !is_free(code, at, facts, DEPTH) {
             bytes.insert(here as u8);
         }
     }
@@ -320,7 +295,7 @@ fn leaves_of(code: &Code, at: usize) -> ByteSet
     if opens_choice(code, at, DEPTH) {
         return ByteSet::all();
     }
-    begins_of(code, at, Price::nothing())
+    begins_of(code, at)
 }
 
 /// Whether no byte is in both sets.
@@ -342,36 +317,42 @@ fn split_at(code: &Code, at: usize) -> Option<ToldSplit>
 {
     let ways = code.ways(at)?;
     let reader = reader_of(code, ways.first, at);
-    let price = first_price(code, ways.first, reader.is_item);
-    let begins = begins_of(code, ways.first, price);
-    if !reader.is_item && begins.len() == 256 {
+    if !reader.is_item {
         return None;
     }
+    let begins = begins_of(code, ways.first);
     let leaves = leaves_of(code, ways.second);
     Some(ToldSplit {
         first: ways.first,
         second: ways.second,
-        is_loop: reader.is_item,
         group: reader.group,
         stop: stop_at(code, ways.second),
         apart: are_apart(&reader.items, &leaves),
-        price,
         items: reader.items,
         begins,
         leaves,
     })
 }
 
-/// What is told of an instruction, if anything is.
-fn part_at(code: &Code, at: usize) -> Option<ToldPart>
-    ensures { IfSome result (λ l. IsTold (instrs_of code.now) code.now.meaning at l) }
+/// What is told of an instruction, if anything is. The parts so far are those of instructions before it.
+fn part_at(
+    alloc: Global,
+    splits: &Splits,
+    code: &Code,
+    at: usize,
+) -> Result<Option<ToldPart>, AllocError>
+    requires { AreSplits splits.now code.now }
+    ensures { IfOk result (λ o. IfSome o (λ l. IsTold (instrs_of code.now) code.now.meaning at l)) }
 {
     if let Some(split) = split_at(code, at) {
-        return Some(ToldPart::Choice(split));
+        return Ok(Some(ToldPart::Loop(split)));
+    }
+    if let Some(choice) = choice_at(alloc, splits, code, at)? {
+        return Ok(Some(ToldPart::Choice(choice)));
     }
     match atom_at(code, at) {
-        Some(atom) => Some(ToldPart::Atom(atom)),
-        None => None,
+        Some(atom) => Ok(Some(ToldPart::Atom(atom))),
+        None => Ok(None),
     }
 }
 
@@ -392,20 +373,22 @@ impl Splits {
     pub fn of(alloc: Global, code: &Code) -> Result<Splits, AllocError>
         ensures { IfOk result (λ splits. AreSplits splits code.now) }
     {
-        let mut numbers = Vec::new(alloc);
-        let mut parts = Vec::new(alloc);
+        let mut splits = Splits {
+            numbers: Vec::new(alloc),
+            parts: Vec::new(alloc),
+        };
         for at in 0..code.len() {
-            if parts.len() == MOST {
+            if splits.parts.len() == MOST {
                 break;
             }
-            let Some(found) = part_at(code, at) else {
+            let Some(found) = part_at(alloc, &splits, code, at)? else {
                 continue;
             };
-            numbers.resize(at, None)?;
-            numbers.push(Some(parts.len() as u8))?;
-            parts.push(found)?;
+            splits.numbers.resize(at, None)?;
+            splits.numbers.push(Some(splits.parts.len() as u8))?;
+            splits.parts.push(found)?;
         }
-        Ok(Splits { numbers, parts })
+        Ok(splits)
     }
 
     /// What is told of an instruction, if anything is.
@@ -419,13 +402,13 @@ impl Splits {
         self.parts.get(*number as usize)
     }
 
-    /// The choice at an instruction, if it is noted.
+    /// The loop at an instruction, if it is noted.
     #[inline]
     pub fn at(&self, at: usize) -> Option<&ToldSplit>
         ensures { IfSome result (λ l. IsNoted self.now at l.now) }
     {
         match self.part(at) {
-            Some(ToldPart::Choice(split)) => Some(split),
+            Some(ToldPart::Loop(split)) => Some(split),
             _ => None,
         }
     }

@@ -1,4 +1,4 @@
-use Rattle.std.proofs.Common.{◌≡◌, ◌+◌, ◌≤◌, ◌∷◌, ◌∙◌, ℕ, List, Option, IfSome, Err, true≢false, refl, sym, ap, ap₂, subst, arith}
+use Rattle.std.proofs.Common.{◌+◌, ◌≤◌, ◌∷◌, ◌∙◌, ℕ, List, Option, IfSome, Err, true≢false, refl, sym, ap, ap₂, subst, arith}
 use Rattle.fancy_input.specs.declared.refusal.SearchRefusal.TheVariants.{Choices}
 use Rattle.fancy_machine.specs.declared.atoms.Whole.{Whole}
 use Rattle.fancy_machine.specs.Atoms.{ReadsAll}

@@ -19,8 +19,7 @@ returns c =
         inside = omega (arith, e, c.if-past-end.false);
         ends = subst (Lacks split.begins haystack) e (c.may_begin.ensures c.if-may_begin.false);
         stuck = subst (Lacks split.leaves haystack) e (c.may_leave.ensures c.if-may_leave.false);
-        loop = c.if-not-split.false;
-        apart = c.if-not-split-2.false;
+        apart = c.if-not-split.false;
         alone = none_there split.group (sym c.is_some.ensures ∙ c.if-is_some.false);
       },
     )

@@ -6,4 +6,4 @@ use Rattle.fancy_prices.specs.Prices.{Dies}
 use Rattle.fancy_prices.proofs.splits.begins_of.Given as goal
 
 abbrev pub invariant-loop-here : goal.invariant-loop-here
-invariant-loop-here l = (b : ℕ) → b < l.here → member l.bytes b ≡ false → Dies (instrs_of l.fn.code) l.fn.code.meaning (byte_alone b) l.fn.price.marks l.fn.price.returns l.fn.at
+invariant-loop-here l = (b : ℕ) → b < l.here → member l.bytes b ≡ false → Dies (instrs_of l.fn.code) l.fn.code.meaning (byte_alone b) 0 0 l.fn.at

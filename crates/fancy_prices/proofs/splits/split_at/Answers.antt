@@ -9,10 +9,9 @@ returns c = record {
   splits = c.in_ok-ways.ensures;
   reads = c.reader_of-reader.ensures.alone;
   reads_in = c.reader_of-reader.ensures.within;
-  ends = c.reader_of-reader.ensures.ends;
+  ends = c.reader_of-reader.ensures.ends c.if-not-reader.false;
   stops = λ next is. subst (λ (o : Option ℕ). IfSome o (λ q. StopsAt (instrs_of c.args.code.now) c.in_ok-ways.ways.second q)) is c.stop_at.ensures;
   misses = c.begins_of-begins.ensures;
-  free = c.first_price-price.ensures;
   leaves = c.leaves_of-leaves.ensures;
   apart = c.are_apart.ensures;
 }

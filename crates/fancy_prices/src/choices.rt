@@ -1,0 +1,206 @@
+//! Choices of code that are no loops: where the byte at a place leads from them.
+
+ghost use Rattle.std.specs.Prelude.{◌≡◌, ℕ, List, Some, IfOk, IfSome, slice_get};
+ghost use Rattle.fancy_tree.specs.declared.tree.Meaning.{Meaning as MeaningIs};
+ghost use Rattle.fancy_code.specs.Code.{instrs_of};
+ghost use Rattle.fancy_code.specs.Instructions.{Instruction, Split};
+ghost use Rattle.fancy_code.specs.Run.{instr_at};
+ghost use Rattle.fancy_prices.specs.declared.choices.Passage.{Passage as PassageIs};
+ghost use Rattle.fancy_prices.specs.Splits.{AreSplits, IsPassage, IsToldChoice, Leads, LeadsBy, Passes};
+
+use crate::facts::Facts;
+use crate::free::price_of;
+use crate::price::Price;
+use crate::splits::{Splits, ToldPart};
+use fancy_code::code::{Code, Ways};
+use std::alloc::{AllocError, Global};
+
+/// How many instructions are followed one after another.
+const DEPTH: usize = 48;
+
+/// The most passages of one choice that differ.
+const MOST: usize = 255;
+
+/// What follows the choices that are passed over.
+#[derive(Clone, Copy, PartialEq, Eq)]
+pub enum Onward {
+    /// Nothing: all ways die.
+    Ends,
+    /// The code goes on at the instruction with this number.
+    Goes(usize),
+    /// One more choice: the code goes on at the first instruction, and may come back to the second one.
+    Splits(usize, usize),
+}
+
+/// Where code goes on from a choice. It passes over choices whose first ways die, one after another.
+#[derive(Clone, Copy, PartialEq, Eq)]
+pub struct Passage {
+    /// How many choices are passed over, and how many of them are taken back.
+    pub price: Price,
+    /// What follows them.
+    pub onward: Onward,
+}
+
+/// A choice of code that is no loop of one item, and where each byte leads from it.
+///
+/// ```text
+/// a|b|c      // at b the first way is passed over, and that of c is saved; at c two choices are passed over; at d all ways die
+/// ```
+#[derive(Drop)]
+pub struct ToldChoice {
+    /// The number of the instruction that the first way begins at.
+    pub first: usize,
+    /// The number of the one that the second way begins at.
+    pub second: usize,
+    // for each byte the number of its passage, where one is told
+    numbers: [Option<u8>; 256],
+    passages: Vec<Passage>,
+}
+
+impl ToldChoice {
+    /// Where the byte leads, if that is told.
+    #[inline]
+    pub fn passage(&self, byte: u8) -> Option<&Passage>
+        ensures { IfSome result (λ p. IsPassage self.now byte p.now) }
+    {
+        let Some(number) = self.numbers[byte as usize] else {
+            return None;
+        };
+        self.passages.get(number as usize)
+    }
+
+    /// The same, where the choice by itself is a passage too.
+    fn passage_or_own(&self, byte: u8) -> Passage
+        ensures { (code : List Instruction) (meaning : MeaningIs) (at : ℕ)
+            → IsToldChoice code meaning at self.now
+            → Leads code meaning byte result.price.marks result.price.returns result.onward at }
+    {
+        if let Some(passage) = self.passage(byte) {
+            return *passage;
+        }
+        Passage {
+            price: Price::nothing(),
+            onward: Onward::Splits(self.first, self.second),
+        }
+    }
+}
+
+/// Where the byte leads from an instruction on, of which the parts so far may tell.
+fn passage_from(splits: &Splits, code: &Code, at: usize, here: u8) -> Passage
+    requires { AreSplits splits.now code.now }
+    ensures { Leads (instrs_of code.now) code.now.meaning here
+        result.price.marks result.price.returns result.onward at }
+{
+    if let Some(ToldPart::Choice(choice)) = splits.part(at) {
+        return choice.passage_or_own(here);
+    }
+    let facts = Facts { here, before: None };
+    match price_of(code, at, facts, DEPTH) {
+        Some(price) => Passage {
+            price,
+            onward: Onward::Ends,
+        },
+        None => Passage {
+            price: Price::nothing(),
+            onward: Onward::Goes(at),
+        },
+    }
+}
+
+/// Where the byte leads from a choice of two ways, if it passes over something.
+fn passage_of(splits: &Splits, code: &Code, ways: Ways, here: u8) -> Option<Passage>
+    requires { AreSplits splits.now code.now }
+    ensures passes { IfSome result (λ p. Passes p.onward p.price.marks) }
+    ensures leads { IfSome result (λ p. (at : ℕ)
+        → instr_at (instrs_of code.now) at ≡ Split ways.first ways.second
+        → Leads (instrs_of code.now) code.now.meaning here
+        p.price.marks p.price.returns p.onward at) }
+{
+    let first = passage_from(splits, code, ways.first, here);
+    match first.onward {
+        Onward::Ends => {
+            let second = passage_from(splits, code, ways.second, here);
+            let price = first.price.or(second.price)?;
+            Some(Passage {
+                price,
+                onward: second.onward,
+            })
+        }
+        Onward::Goes(to) if to != ways.first => Some(Passage {
+            price: first.price,
+            onward: Onward::Splits(to, ways.second),
+        }),
+        _ => None,
+    }
+}
+
+/// The number of a passage. It is noted where it is not yet, if there is room.
+fn number_of(passages: &mut Vec<Passage>, passage: Passage) -> Result<Option<u8>, AllocError>
+    ensures kept { (k : ℕ) (p : PassageIs) → slice_get passages.old.items k ≡ Some p
+        → slice_get passages.new.items k ≡ Some p }
+    ensures noted { IfOk result
+        (λ o. IfSome o (λ k. slice_get passages.new.items k ≡ Some passage)) }
+{
+    for number in 0..passages.len().min(MOST) {
+        if passages[number] == passage {
+            return Ok(Some(number as u8));
+        }
+    }
+    let number = passages.len();
+    if number >= MOST {
+        return Ok(None);
+    }
+    passages.push(passage)?;
+    Ok(Some(number as u8))
+}
+
+/// The number of the passage of a byte, if one is told.
+fn number_at(
+    splits: &Splits,
+    code: &Code,
+    ways: Ways,
+    here: u8,
+    passages: &mut Vec<Passage>,
+) -> Result<Option<u8>, AllocError>
+    requires { AreSplits splits.now code.now }
+    ensures kept { (k : ℕ) (p : PassageIs) → slice_get passages.old.items k ≡ Some p
+        → slice_get passages.new.items k ≡ Some p }
+    ensures noted { IfOk result (λ o. (at : ℕ)
+        → instr_at (instrs_of code.now) at ≡ Split ways.first ways.second
+        → LeadsBy (instrs_of code.now) code.now.meaning passages.new.items at here o) }
+{
+    match passage_of(splits, code, ways, here) {
+        Some(passage) => number_of(passages, passage),
+        None => Ok(None),
+    }
+}
+
+/// The choice at an instruction, if a byte leads from it over a choice. The parts are those of the instructions before it.
+pub(crate) fn choice_at(
+    alloc: Global,
+    splits: &Splits,
+    code: &Code,
+    at: usize,
+) -> Result<Option<ToldChoice>, AllocError>
+    requires { AreSplits splits.now code.now }
+    ensures { IfOk result (λ o. IfSome o
+        (λ c. IsToldChoice (instrs_of code.now) code.now.meaning at c)) }
+{
+    let Some(ways) = code.ways(at) else {
+        return Ok(None);
+    };
+    let mut numbers = [None; 256];
+    let mut passages = Vec::new(alloc);
+    for here in 0..256u32 {
+        numbers[here as usize] = number_at(splits, code, ways, here as u8, &mut passages)?;
+    }
+    if passages.is_empty() {
+        return Ok(None);
+    }
+    Ok(Some(ToldChoice {
+        first: ways.first,
+        second: ways.second,
+        numbers,
+        passages,
+    }))
+}
