@@ -1,8 +1,9 @@
 -- The inner loop of a search: a step that the table tells.
-use Rattle.std.proofs.Common.{◌≡◌, ℕ, suc, ◌+◌, ◌++◌, ◌∷◌, [], ◌<◌, inl, inr, true, List, Option, Some, refl, sym, ap, ◌∙◌, subst, arith, length}
+use Rattle.std.proofs.Common.{◌≡◌, ℕ, suc, ◌+◌, ◌*◌, ◌++◌, ◌∷◌, [], ◌<◌, inl, inr, true, List, Option, None, Some, refl, sym, ap, ◌∙◌, subst, arith, length}
 use Rattle.std.specs.Prelude.{slice_get}
 use Rattle.std.specs.Global.{Vec}
 use Rattle.std.proofs.lemmas.Option.{slice_get_cases}
+use Rattle.fancy_input.specs.declared.span.Span.{Span}
 use Rattle.fancy_code.specs.declared.attempt.Attempt.{Attempt}
 use Rattle.fancy_code.specs.Attempt.{context_in, may_end_in}
 use Rattle.fancy_input.specs.Lines.{byte_before}
@@ -40,6 +41,15 @@ pub first_after : (a : Attempt) (classes : Classes) (p byte : ℕ) (c : Column) 
 first_after a classes p byte c low here there =
     let next : p + 1 ≡ suc p = omega arith in
     (side_of byte, low_side_before (context_in a) (p + 1) byte low (ap (byte_before a.haystack.now) next ∙ here), classes.follows byte c there)
+
+-- where the entries begin of the row of a place
+pub row_spread : (found : Option Span) (n b w ahead opened : ℕ) → ahead ≡ n * w → opened ≡ b * w → row_if found ahead opened ≡ row_if found n b * w
+row_spread None n b w ahead opened next begun = begun
+row_spread (Some s) n b w ahead opened next begun = next
+
+pub row_below : (found : Option Span) (ahead opened bound : ℕ) → ahead < bound → opened < bound → row_if found ahead opened < bound
+row_below None ahead opened bound next begun = begun
+row_below (Some s) ahead opened bound next begun = next
 
 -- what has a column is an ASCII character
 pub column_low : (classes : Classes) (byte : ℕ) (c : Column) → slice_get classes.columns.items byte ≡ Some c → byte < 128

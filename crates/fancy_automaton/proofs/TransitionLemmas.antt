@@ -1,5 +1,5 @@
 -- The table of a search.
-use Rattle.std.proofs.Common.{◌≡◌, ℕ, ◌+◌, ◌*◌, ◌/◌, ◌<◌, ◌≤◌, ◌⊎◌, inl, inr, [], ◌∷◌, ◌++◌, List, Option, Some, sym, ap, ap₂, ◌∙◌, subst, arith, length, get_or, set}
+use Rattle.std.proofs.Common.{◌≡◌, ℕ, ◌+◌, ◌*◌, ◌/◌, ◌<◌, ◌≤◌, ◌⊎◌, inl, inr, [], ◌∷◌, ◌++◌, List, Option, Some, refl, sym, ap, ap₂, ◌∙◌, subst, arith, length, get_or, set}
 use Rattle.std.specs.Prelude.{slice_get}
 use Rattle.std.proofs.lemmas.Bool.Decides.{eqb_tells}
 use Rattle.std.proofs.lemmas.List.{get_or-set_same, get_or-set_other, length-append}
@@ -24,7 +24,7 @@ use Rattle.fancy_alphabet.specs.Classes.{AreClasses}
 use Rattle.fancy_automaton.specs.declared.cells.Cells.{Cells}
 use Rattle.fancy_automaton.specs.Cells.{GrowsBy, HasPlace, HoldsFor, IsCell, IsFor, KeepsCells}
 use Rattle.fancy_automaton.proofs.CellLemmas.{cells_more, grown}
-use Rattle.fancy_automaton.specs.Transitions.{AreTold, IsEntry, IsTransition, entry_at}
+use Rattle.fancy_automaton.specs.Transitions.{AreTold, IsEntry, IsSpread, IsTransition, entry_at}
 
 other_part : (p q a b w : ℕ) → p ≡ q → p * w + a ≡ q * w + b → a ≡ b
 other_part p q a b w e f =
@@ -63,7 +63,17 @@ module _ (cells later : List Cell) (grown : KeepsCells cells later) (longer : le
         (let q = told.quiet row column sight t is e in (more_transition row sight t q.0, λ c at. q.1 c (stays t.cell q.0.stands c at)));
     matching = λ row column sight t is e.
         (let q = told.matching row column sight t is e in (more_transition row sight t q.0, λ c at. q.1 c (stays t.cell q.0.stands c at)));
+    quiet_spread = told.quiet_spread;
+    matching_spread = told.matching_spread;
   }
+
+-- where the entry at a place of the table leads
+pub spread_at : (cells : List Cell) (table : Transitions) (i : ℕ) → AreTold cells table → IsSpread table.classes.width (get_or table.entries.items i Unknown)
+spread_at cells table i told = at (get_or table.entries.items i Unknown) refl where
+  at : (e : Entry) → get_or table.entries.items i Unknown ≡ e → IsSpread table.classes.width e
+  at Unknown is = tt
+  at (Quiet t) is = told.quiet_spread i t is
+  at (Matching t) is = told.matching_spread i t is
 
 -- the column of what is seen is one of the table
 pub column_within : (classes : Classes) (sight : Sight) (column : ℕ) → IsColumn classes sight column → column < classes.width
@@ -92,11 +102,17 @@ entry_in entries classes row column = get_or entries (row * classes.width + colu
 -- the same classes, and entries that the table told, or that are steps
 pub told_by : (cells : List Cell) (table later : Transitions) → later.classes ≡ table.classes → AreTold cells table
     → ((row column : ℕ) (sight : Sight) → IsColumn table.classes sight column → (entry_in later.entries.items table.classes row column ≡ entry_at table row column)
-    ⊎ IsEntry cells row sight (entry_in later.entries.items table.classes row column)) → AreTold cells later
-told_by cells table later same told each = record {
+    ⊎ IsEntry cells row sight (entry_in later.entries.items table.classes row column))
+    → ((i : ℕ) → IsSpread table.classes.width (get_or later.entries.items i Unknown)) → AreTold cells later
+told_by cells table later same told each spread = record {
   quiet = λ row column sight t is e. there row column sight (Quiet t) (column_in sight column is) e (λ old. told.quiet row column sight t (column_in sight column is) old);
   matching = λ row column sight t is e. there row column sight (Matching t) (column_in sight column is) e (λ old. told.matching row column sight t (column_in sight column is) old);
+  quiet_spread = λ i t e. subst (IsSpread later.classes.width) e (leads i);
+  matching_spread = λ i t e. subst (IsSpread later.classes.width) e (leads i);
 } where
+  leads : (i : ℕ) → IsSpread later.classes.width (get_or later.entries.items i Unknown)
+  leads i = subst (λ (k : Classes). IsSpread k.width (get_or later.entries.items i Unknown)) (sym same) (spread i)
+
   column_in : (sight : Sight) (column : ℕ) → IsColumn later.classes sight column → IsColumn table.classes sight column
   column_in sight column is = subst (λ (k : Classes). IsColumn k sight column) same is
 
@@ -112,14 +128,26 @@ told_by cells table later same told each = record {
 -- the entries are the same
 pub told_same : (cells : List Cell) (table later : Transitions) → later.classes ≡ table.classes
     → ((i : ℕ) → get_or later.entries.items i Unknown ≡ get_or table.entries.items i Unknown) → AreTold cells table → AreTold cells later
-told_same cells table later classes same told = told_by cells table later classes told (λ row column sight is. inl (same (row * table.classes.width + column)))
+told_same cells table later classes same told =
+    told_by cells table later classes told (λ row column sight is. inl (same (row * table.classes.width + column)))
+    (λ i. subst (IsSpread table.classes.width) (sym (same i)) (spread_at cells table i told))
 
 -- one entry is put in
 pub told_set : (cells : List Cell) (table later : Transitions) (row column : ℕ) (sight : Sight) (x : Entry) → later.classes ≡ table.classes
     → later.entries.items ≡ set table.entries.items (row * table.classes.width + column) x
     → row * table.classes.width + column < length table.entries.items → IsColumn table.classes sight column → IsEntry cells row sight x
-    → AreTold cells table → AreTold cells later
-told_set cells table later row column sight x classes put within is entry told = told_by cells table later classes told each where
+    → IsSpread table.classes.width x → AreTold cells table → AreTold cells later
+told_set cells table later row column sight x classes put within is entry far told = told_by cells table later classes told each spread where
+  spread : (i : ℕ) → IsSpread table.classes.width (get_or later.entries.items i Unknown)
+  spread i =
+      let k = row * table.classes.width + column in
+      subst (λ (es : List Entry). IsSpread table.classes.width (get_or es i Unknown)) (sym put) (
+      elim (eqb_tells i k) [
+        | inl same ↦ subst (λ (n : ℕ). IsSpread table.classes.width (get_or (set table.entries.items k x) n Unknown)) (sym same.1)
+            (subst (IsSpread table.classes.width) (sym (get_or-set_same table.entries.items k x Unknown within)) far)
+        | inr away ↦ subst (IsSpread table.classes.width) (sym (get_or-set_other table.entries.items k i x Unknown away.1)) (spread_at cells table i told)
+      ])
+
   each : (r b : ℕ) (seen : Sight) → IsColumn table.classes seen b → (entry_in later.entries.items table.classes r b ≡ entry_at table r b)
       ⊎ IsEntry cells r seen (entry_in later.entries.items table.classes r b)
   each r b seen also =
@@ -185,8 +213,10 @@ told_at cells table row first byte c before e here seen begins is told =
 pub told_noted : (cells : List Cell) (table made later : Transitions) (row column : ℕ) (sight : Sight) (x : Entry) → IsColumn table.classes sight column → made.classes ≡ table.classes
     → ((i : ℕ) → get_or made.entries.items i Unknown ≡ get_or table.entries.items i Unknown)
     → row * made.classes.width + made.classes.width ≤ length made.entries.items → later.classes ≡ made.classes
-    → later.entries.items ≡ set made.entries.items (row * made.classes.width + column) x → AreTold cells table → IsEntry cells row sight x → AreTold cells later
-told_noted cells table made later row column sight x is classes same room kept put told entry =
+    → later.entries.items ≡ set made.entries.items (row * made.classes.width + column) x → AreTold cells table → IsEntry cells row sight x
+    → IsSpread table.classes.width x → AreTold cells later
+told_noted cells table made later row column sight x is classes same room kept put told entry far =
     let there : IsColumn made.classes sight column = subst (λ (k : Classes). IsColumn k sight column) (sym classes) is in
     let low = column_within made.classes sight column there in
-    told_set cells made later row column sight x kept put (omega (arith, room, low)) there entry (told_same cells table made classes same told)
+    told_set cells made later row column sight x kept put (omega (arith, room, low)) there entry
+    (subst (λ (k : Classes). IsSpread k.width x) (sym classes) far) (told_same cells table made classes same told)

@@ -31,16 +31,27 @@ IsEntry cells row sight Unknown = Unit {0}
 IsEntry cells row sight (Quiet t) = IsTransition cells row sight t × IsQuiet cells t
 IsEntry cells row sight (Matching t) = IsTransition cells row sight t × IsMatching cells t
 
+-- its rows have their entries there, in a table with so many columns
+abbrev pub Spreads : ℕ → Transition → Type 0
+Spreads width t = (t.ahead ≡ t.next * width) × (t.opened ≡ t.begun * width)
+
+abbrev pub IsSpread : ℕ → Entry → Type 0
+IsSpread width Unknown = Unit {0}
+IsSpread width (Quiet t) = Spreads width t
+IsSpread width (Matching t) = Spreads width t
+
 -- what the table has of a row and a column
 abbrev pub entry_at : Transitions → ℕ → ℕ → Entry
 entry_at table row column = get_or table.entries.items (row * table.classes.width + column) Unknown
 
--- Each entry of the table is such a step, on what is seen in its column.
+-- Each entry of the table is such a step, on what is seen in its column, and leads to where its rows have their entries.
 pub record AreTold (cells : List Cell) (table : Transitions) : Type 0 where
   pub quiet : (row column : ℕ) (sight : Sight) (t : Transition) → IsColumn table.classes sight column
       → entry_at table row column ≡ Quiet t → IsTransition cells row sight t × IsQuiet cells t
   pub matching : (row column : ℕ) (sight : Sight) (t : Transition) → IsColumn table.classes sight column
       → entry_at table row column ≡ Matching t → IsTransition cells row sight t × IsMatching cells t
+  pub quiet_spread : (i : ℕ) (t : Transition) → get_or table.entries.items i Unknown ≡ Quiet t → Spreads table.classes.width t
+  pub matching_spread : (i : ℕ) (t : Transition) → get_or table.entries.items i Unknown ≡ Matching t → Spreads table.classes.width t
 
 -- the table, as it is read
 abbrev pub IsView : Transitions → View → Type 0

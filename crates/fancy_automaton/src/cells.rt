@@ -7,7 +7,7 @@ ghost use Rattle.fancy_code.specs.declared.code.Code.{Code};
 ghost use Rattle.fancy_alphabet.specs.Alike.{IsSeenLike};
 ghost use Rattle.fancy_automaton.specs.Steps.{from_of, IsStepOn};
 ghost use Rattle.fancy_automaton.specs.Trail.{came_at};
-ghost use Rattle.fancy_automaton.specs.Transitions.{AreTold, IsEntry};
+ghost use Rattle.fancy_automaton.specs.Transitions.{AreTold, IsEntry, IsSpread};
 ghost use Rattle.fancy_automaton.specs.Cells.{KeepsRows, KeepsCells, HasRow, HasCell, HasPlace, IsFor, IsCell, IsBounded, ways_at, IsEmpty, StaysTrue, GrowsBy, HasRows, HoldsFor};
 ghost use Rattle.fancy_automaton.specs.Counts.{AddsSteps, PaysFor};
 
@@ -72,8 +72,11 @@ const ENTRY_BYTES: usize = 20;
 /// A step takes about so many bytes, with its hints and without the ways that it leads to.
 const CELL_BYTES: usize = 240;
 
-/// Numbers below this are told by the table.
-const SMALL: usize = 4_294_967_296;
+/// Rows and steps with numbers below this are told by the table.
+const SMALL: usize = 65_536;
+
+/// Rows whose entries begin before this are told by the table.
+const FAR: usize = 4_294_967_296;
 
 /// An instruction of a row takes so many bytes, and so does a way that a step leads to.
 const WAY_BYTES: usize = 8;
@@ -309,11 +312,8 @@ fn told(cells: &Cells, row: usize, sight: Sight, byte: u8) -> Option<usize>
 {
     let classes = &cells.table.classes;
     let column = classes.column(byte)?;
-    match cells
-        .table
-        .view()
-        .at(row, classes.first(sight.before), column)
-    {
+    let table = cells.table.view();
+    match table.at(table.start(row), classes.first(sight.before), column) {
         Entry::Unknown => None,
         Entry::Quiet(step) | Entry::Matching(step) => {
             tested_cell(&cells.cells, Some(step.cell as usize), row, sight)
@@ -326,15 +326,14 @@ pub(crate) fn is_told(cells: &Cells, row: usize, before: Side, byte: u8) -> bool
     requires row { row < 4_294_967_296 }
 {
     let classes = &cells.table.classes;
-    match classes.column(byte) {
-        None => false,
-        Some(column) => {
-            !matches!(
-                cells.table.view().at(row, classes.first(before), column),
-                Entry::Unknown
-            )
-        }
-    }
+    let Some(column) = classes.column(byte) else {
+        return false;
+    };
+    let table = cells.table.view();
+    !matches!(
+        table.at(table.start(row), classes.first(before), column),
+        Entry::Unknown
+    )
 }
 
 /// The number of the step from a row on what is seen, if it is remembered.
@@ -382,20 +381,29 @@ fn hint_cell(
     Ok(())
 }
 
-/// The entry of the step with this number.
-fn entry_of(cells: &[Cell], k: usize) -> Entry
-    requires { k < length cells.now }
-    ensures { (row : ℕ) (sight : Sight) → HasCell cells.now k row sight
+/// The entry of the step with this number, in a table with so many columns.
+fn entry_of(cells: &[Cell], k: usize, width: usize) -> Entry
+    requires cell { k < length cells.now }
+    requires narrow { width < 2_147_483_648 }
+    ensures entry { (row : ℕ) (sight : Sight) → HasCell cells.now k row sight
         → IsEntry cells.now row sight result }
+    ensures spread { IsSpread width result }
 {
     let cell = &cells[k];
     if k >= SMALL || cell.next >= SMALL || cell.begun >= SMALL {
         return Entry::Unknown;
     }
+    let ahead = cell.next * width;
+    let opened = cell.begun * width;
+    if ahead >= FAR || opened >= FAR {
+        return Entry::Unknown;
+    }
     let step = Transition {
-        cell: k as u32,
-        next: cell.next as u32,
-        begun: cell.begun as u32,
+        ahead: ahead as u32,
+        opened: opened as u32,
+        cell: k as u16,
+        next: cell.next as u16,
+        begun: cell.begun as u16,
         origin: cell.origin,
     };
     match cell.matched {
@@ -423,7 +431,8 @@ fn note(
     if cell.row >= SMALL {
         return Ok(());
     }
-    table.note(cell.row, cell.sight, entry_of(cells, k))
+    let entry = entry_of(cells, k, table.view().width);
+    table.note(cell.row, cell.sight, entry)
 }
 
 /// Whether the rows before the first place are where they are looked for.
@@ -451,9 +460,25 @@ fn sort(code: &Code, cells: &mut Cells) -> Result<(), AllocError>
     Ok(())
 }
 
-/// The rows before the first place: that without an instruction, and that of the first instruction alone. Where one more step
+/// Makes the rows before the first place: that without an instruction, and that of the first instruction alone. Where one more step
 /// may be one too many, all is forgotten before they are made.
-#[inline]
+#[inline(never)]
+fn made_origin(code: &Code, cells: &mut Cells) -> Result<Target, AllocError>
+    requires kept { HoldsFor cells.old code.now }
+    ensures kept { HoldsFor cells.new code.now }
+    ensures rows { IfOk result (λ t.
+        HasRows cells.new.rows.lists.items t.next t.begun [] code.now.start) }
+{
+    sort(code, cells)?;
+    cells.make_place();
+    let target = target_of(cells.alloc, &mut cells.rows, code.start, &[])?;
+    cells.nothing = target.next;
+    cells.alone = target.begun;
+    Ok(target)
+}
+
+/// The rows before the first place, made where they are not there.
+#[inline(always)]
 pub(crate) fn origin(code: &Code, cells: &mut Cells) -> Result<Target, AllocError>
     requires kept { HoldsFor cells.old code.now }
     ensures kept { HoldsFor cells.new code.now }
@@ -466,12 +491,7 @@ pub(crate) fn origin(code: &Code, cells: &mut Cells) -> Result<Target, AllocErro
             begun: cells.alone,
         });
     }
-    sort(code, cells)?;
-    cells.make_place();
-    let target = target_of(cells.alloc, &mut cells.rows, code.start, &[])?;
-    cells.nothing = target.next;
-    cells.alone = target.begun;
-    Ok(target)
+    made_origin(code, cells)
 }
 
 /// The number of the step of the way that begins, where that is the last of these ways, there are others before it, and what it

@@ -98,12 +98,13 @@ fn seek(attempt: &Attempt, cells: &Cells, from: Sole, idle: usize) -> Sole
     let table = cells.table.view();
     let haystack = attempt.haystack;
     let mut at = from.stand;
+    let mut row = table.start(at.begun);
     let mut start = from.start;
     'places: while at.place < attempt.last {
         let Some(column) = table.column(haystack[at.place]) else {
             break 'places;
         };
-        let Entry::Quiet(step) = table.at(at.begun, at.first, column) else {
+        let Entry::Quiet(step) = table.at(row, at.first, column) else {
             break 'places;
         };
         match step.origin {
@@ -111,9 +112,10 @@ fn seek(attempt: &Attempt, cells: &Cells, from: Sole, idle: usize) -> Sole
             Origin::Last => start = at.place,
             Origin::Earlier => {}
         }
-        let was = at.next;
+        let rests = at.next == idle && step.next as usize == idle;
+        row = step.opened as usize;
         at = stand_after(at, column, step);
-        if was == idle && at.next == idle {
+        if rests {
             break 'places;
         }
     }
@@ -136,9 +138,10 @@ fn hunt(attempt: &Attempt, cells: &Cells, from: Stand, idle: usize) -> Option<So
     let haystack = attempt.haystack;
     let limit = attempt.last.min(from.place.saturating_add(VISITS));
     let mut at = from;
+    let mut row = table.start(at.begun);
     'places: while at.place < limit {
         let column = table.column(haystack[at.place])?;
-        let Entry::Quiet(step) = table.at(at.begun, at.first, column) else {
+        let Entry::Quiet(step) = table.at(row, at.first, column) else {
             return None;
         };
         let sole = Sole {
@@ -152,6 +155,7 @@ fn hunt(attempt: &Attempt, cells: &Cells, from: Stand, idle: usize) -> Option<So
         if let Origin::Last = step.origin {
             return Some(sole);
         }
+        row = step.opened as usize;
         at = sole.stand;
     }
     None
@@ -202,7 +206,7 @@ fn past(attempt: &Attempt, cells: &Cells, at: Sole, idle: usize) -> Option<Sole>
     }
     let table = cells.table.view();
     let column = table.column(attempt.haystack[at.stand.place])?;
-    let step = match table.at(at.stand.begun, at.stand.first, column) {
+    let step = match table.at(table.start(at.stand.begun), at.stand.first, column) {
         Entry::Unknown => return None,
         Entry::Quiet(_) => return onward(attempt, cells, at.stand, idle),
         Entry::Matching(step) => step,
@@ -237,12 +241,13 @@ pub(crate) fn lengthen(attempt: &Attempt, cells: &Cells, from: Sole, idle: usize
     let table = cells.table.view();
     let haystack = attempt.haystack;
     let mut at = from.stand;
+    let mut row = table.start(at.next);
     let mut end = from.end;
     'places: while at.place < attempt.last && at.next != idle {
         let Some(column) = table.column(haystack[at.place]) else {
             break 'places;
         };
-        let step = match table.at(at.next, at.first, column) {
+        let step = match table.at(row, at.first, column) {
             Entry::Unknown => break 'places,
             Entry::Quiet(step) => step,
             Entry::Matching(step) => {
@@ -250,6 +255,7 @@ pub(crate) fn lengthen(attempt: &Attempt, cells: &Cells, from: Sole, idle: usize
                 step
             }
         };
+        row = step.ahead as usize;
         at = stand_after(at, column, step);
     }
     Sole {

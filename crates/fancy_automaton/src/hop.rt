@@ -7,7 +7,7 @@ ghost use Rattle.fancy_automaton.specs.Front.{IsFront, front_at, Stands};
 ghost use Rattle.fancy_automaton.specs.Sole.{stood};
 ghost use Rattle.fancy_automaton.specs.Trail.{hit_or, most_visits};
 ghost use Rattle.fancy_alphabet.specs.Classes.{IsFirst};
-ghost use Rattle.fancy_automaton.specs.Transitions.{IsEntry, IsTransition};
+ghost use Rattle.fancy_automaton.specs.Transitions.{IsEntry, IsSpread, IsTransition, Spreads};
 ghost use Rattle.fancy_alphabet.specs.declared.sight.Sight.{Sight};
 ghost use Rattle.fancy_automaton.specs.declared.cells.Cell.{Cell};
 
@@ -54,6 +54,7 @@ fn step_of(
     ensures unknown { entry ≡ Entry.Unknown → result ≡ None }
     ensures told { (row : ℕ) (sight : Sight) → IsEntry cells.now.cells.items row sight entry
         → IfSome result (λ t. IsTransition cells.now.cells.items row sight t) }
+    ensures spread { (width : ℕ) → IsSpread width entry → IfSome result (Spreads width) }
     ensures found { (row : ℕ) (sight : Sight) → IsEntry cells.now.cells.items row sight entry
         → IfSome result (λ t. (c : Cell) → slice_get cells.now.cells.items t.cell ≡ Some c
         → hit.new ≡ hit_or hit.old c.matched visits place) }
@@ -130,17 +131,18 @@ pub(crate) fn run(
     let room = VISITS.saturating_sub(trail.visits.len());
     let end = attempt.last.min(from.place.saturating_add(room));
     let idle = idle_row(cells);
+    let table = cells.table.view();
     let mut at = from;
+    let mut row = table.start(row_at(*hit, at.next, at.begun));
     let searches = hit.is_none();
     let mut ends = false;
     'places: while at.place < end && !ends {
         let byte = attempt.haystack[at.place];
-        let row = row_at(*hit, at.next, at.begun);
         let start = start_at(*hit, at.place);
-        let Some(column) = cells.table.classes.column(byte) else {
+        let Some(column) = table.column(byte) else {
             return Ok(at);
         };
-        let entry = cells.table.view().at(row, at.first, column);
+        let entry = table.at(row, at.first, column);
         let visits = trail.visits.len();
         let Some(step) = step_of(entry, cells, hit, visits, at.place) else {
             return Ok(at);
@@ -149,6 +151,7 @@ pub(crate) fn run(
             cell: step.cell as usize,
             start,
         })?;
+        row = row_at(*hit, step.ahead as usize, step.opened as usize);
         at = stand_after(at, column, step);
         ends = leaves(at, idle, *hit, searches);
     }

@@ -3,7 +3,7 @@
 ghost use Rattle.std.specs.Prelude.{◌≡◌, ◌+◌, ◌*◌, ◌<◌, ◌≤◌, ℕ, [], List, OnOk, get_or, length, slice_get, Some};
 ghost use Rattle.fancy_alphabet.specs.Classes.{first_of, sight_for};
 ghost use Rattle.fancy_alphabet.specs.Sides.{number_of, sides_of};
-ghost use Rattle.fancy_automaton.specs.Transitions.{AreTold, IsEntry, IsView};
+ghost use Rattle.fancy_automaton.specs.Transitions.{AreTold, IsEntry, IsSpread, IsView};
 ghost use Rattle.fancy_automaton.specs.declared.transitions.Transitions.{Transitions};
 ghost use Rattle.fancy_automaton.specs.declared.cells.Cell.{Cell};
 ghost use Rattle.fancy_alphabet.specs.declared.side.Side.{Side};
@@ -16,12 +16,16 @@ use std::alloc::{AllocError, Global};
 /// A step, told by numbers.
 #[derive(Clone, Copy)]
 pub struct Transition {
+    /// Where the entries begin of the row after what is read.
+    pub ahead: u32,
+    /// Where those begin of that row with one more way.
+    pub opened: u32,
     /// The number of its cell.
-    pub cell: u32,
+    pub cell: u16,
     /// The row after what is read.
-    pub next: u32,
+    pub next: u16,
     /// That row with one more way, which begins there.
-    pub begun: u32,
+    pub begun: u16,
     /// Of which ways those come that it leads to.
     pub origin: Origin,
 }
@@ -91,7 +95,7 @@ impl Transitions {
     pub fn note(&mut self, row: usize, sight: Sight, entry: Entry) -> Result<(), AllocError>
         requires { row < 4_294_967_296 }
         ensures told { (cells : List Cell) → AreTold cells self.old → IsEntry cells row sight entry
-            → AreTold cells self.new }
+            → IsSpread self.old.classes.width entry → AreTold cells self.new }
         ensures classes { self.new.classes ≡ self.old.classes }
     {
         let Some(column) = self.classes.column_of(sight) else {
@@ -123,23 +127,34 @@ impl View<'_> {
         self.columns.get(byte as usize).copied()
     }
 
-    /// What the table has of a row and a column, where the columns begin at `first` of what stands before.
+    /// Where the entries of a row begin.
     #[inline(always)]
-    pub fn at(self, row: usize, first: usize, column: Column) -> Entry
+    pub fn start(self, row: usize) -> usize
         requires row { row < 4_294_967_296 }
-        requires first { first < 4_294_967_296 }
         requires narrow { self.width < 2_147_483_648 }
-        ensures told { (cells : List Cell) (table : Transitions) (before : Side) (byte : ℕ)
-            → IsView table self.entry → AreTold cells table
+        ensures start { result ≡ row * self.entry.width }
+        ensures low { result < 9_223_372_036_854_775_808 }
+    {
+        row * self.width
+    }
+
+    /// What the table has of a column of the row whose entries begin at `start`, where the columns begin at `first` of what stands
+    /// before.
+    #[inline(always)]
+    pub fn at(self, start: usize, first: usize, column: Column) -> Entry
+        requires start { start < 9_223_372_036_854_775_808 }
+        requires first { first < 4_294_967_296 }
+        ensures told { (cells : List Cell) (table : Transitions) (row : ℕ) (before : Side) (byte : ℕ)
+            → IsView table self.entry → AreTold cells table → start ≡ row * table.classes.width
             → number_of before < sides_of table.classes.tests
             → first ≡ first_of table.classes before
             → slice_get self.entry.columns.now byte ≡ Some column
             → IsEntry cells row (sight_for table.classes before byte) result }
+        ensures spread { (cells : List Cell) (table : Transitions)
+            → IsView table self.entry → AreTold cells table
+            → IsSpread table.classes.width result }
     {
-        match self
-            .entries
-            .get(row * self.width + first + column.class as usize)
-        {
+        match self.entries.get(start + (first + column.class as usize)) {
             Some(entry) => *entry,
             None => Entry::Unknown,
         }

@@ -1,4 +1,4 @@
-use Rattle.std.proofs.Common.{◌<◌, ◌∙◌, ap, arith, get_or, length, Option, ℕ, subst, sym, is_some}
+use Rattle.std.proofs.Common.{◌≡◌, ◌*◌, ◌<◌, ◌∙◌, ap, arith, get_or, length, Option, ℕ, subst, sym, is_some}
 use Rattle.fancy_alphabet.proofs.NumberLemmas.{seen_low}
 use Rattle.fancy_alphabet.specs.Sides.{seen_as}
 use Rattle.fancy_automaton.specs.Cells.{ways_at}
@@ -30,16 +30,25 @@ places-preserved c =
       | in-Quiet w ↦ subst (λ (t : Transition). Walked a cells at column t c.places.end c.match-at.end) (sym w.step-is)
           (subst (λ (o : Option ℕ). Walked a cells at column w.in-Quiet.step c.places.end o) (sym w.end-is)
           (walked_quiet a cells at byte column w.in-Quiet.step c.requires.followed c.requires.kept c.places.invariant.row placed r
-          (w.in-Quiet.ensures.told cells.cells.items cells.table side byte view c.requires.kept.bounded.told low placed.begins.2 seen) c.places.end))
+          (w.in-Quiet.ensures.told cells.cells.items cells.table at.next side byte view c.requires.kept.bounded.told c.places.invariant.starts low placed.begins.2 seen) c.places.end))
       | in-Matching w ↦ subst (λ (t : Transition). Walked a cells at column t c.places.end c.match-at.end) (sym w.step-is)
           (subst (λ (o : Option ℕ). Walked a cells at column w.in-Matching.step c.places.end o) (sym w.end-is)
           (walked_found a cells at byte column w.in-Matching.step c.requires.followed c.requires.kept c.places.invariant.row placed r
-          (w.in-Matching.ensures.told cells.cells.items cells.table side byte view c.requires.kept.bounded.told low placed.begins.2 seen) c.places.end))
+          (w.in-Matching.ensures.told cells.cells.items cells.table at.next side byte view c.requires.kept.bounded.told c.places.invariant.starts low placed.begins.2 seen) c.places.end))
+    ] in
+    let spread : step.ahead ≡ step.next * classes.width =
+    elim c.match-at.branch [
+      | in-Quiet w ↦ subst (λ (t : Transition). t.ahead ≡ t.next * classes.width) (sym w.step-is)
+          (w.in-Quiet.ensures.spread cells.cells.items cells.table view c.requires.kept.bounded.told).0
+      | in-Matching w ↦ subst (λ (t : Transition). t.ahead ≡ t.next * classes.width) (sym w.step-is)
+          (w.in-Matching.ensures.spread cells.cells.items cells.table view c.requires.kept.bounded.told).0
     ] in
     let e = sym c.stand_after-at.ensures in
     record {
       row = subst (λ (st : Stand). st.next < length cells.rows.lists.items) e walked.row;
       placed = subst (IsPlaced a cells) e walked.placed;
+      starts = subst (λ (st : Stand). step.ahead ≡ st.next * classes.width) e spread;
+      low = omega arith;
       forth = omega (arith, c.places.invariant.forth, ap (λ (st : Stand). st.place) c.stand_after-at.ensures);
       found = λ some. elim c.match-at.branch [
         | in-Quiet w ↦ ap (λ (o : Option ℕ). is_some o) w.end-is ∙ c.places.invariant.found some

@@ -1,4 +1,4 @@
-use Rattle.std.proofs.Common.{[], None, List, Option, ℕ, arith, length, refl, replicate, subst}
+use Rattle.std.proofs.Common.{[], None, Option, ℕ, arith, length, refl, replicate, subst}
 use Rattle.fancy_automaton.specs.Sole.{IsAmid, IsAt, match_from}
 use Rattle.fancy_automaton.proofs.GoingLemmas.{going_idle}
 use Rattle.fancy_automaton.proofs.SoleLemmas.{idle_rows}

@@ -1,4 +1,4 @@
-use Rattle.std.proofs.Common.{◌+◌, ◌∙◌, ap, arith, option_map, refl}
+use Rattle.std.proofs.Common.{◌+◌, ◌∙◌, ap, arith, option_map}
 use Rattle.fancy_automaton.specs.Search.{ends_in}
 use Rattle.fancy_code.specs.CodeLength.{code_len}
 use Rattle.fancy_automaton.proofs.CellLemmas.{row_within}
