@@ -11,7 +11,9 @@ use Rattle.fancy_search.specs.MatchList.{MatchItem}
 use Rattle.fancy_core.specs.NextAnswers.{ByAnswer}
 use Rattle.fancy_core.specs.Captures.{spans_in, searched_in, found_by}
 use Rattle.fancy_core.specs.Regexes.{group_count_in}
-use Rattle.fancy_core.specs.Searches.{matches_in_whole, matches_of_input}
+use Rattle.fancy_core.specs.Searches.{matches_in_whole, matches_of_input, matches_onward}
+use Rattle.fancy_input.specs.declared.input.Request.{Request}
+use Rattle.fancy_search.specs.declared.searcher.Onward.{Onward}
 use Rattle.fancy_input.specs.declared.regex_input.RegexInput.{RegexInput}
 use Rattle.fancy_core.specs.Iterations.{regex_in, haystack_of, has_ended, left_in, end_in, allows_next, EndsMatches, RefusesMatch, StaysAsked}
 
@@ -30,6 +32,10 @@ groups_in_whole r text bytes haystack = groups_of_each (group_count_in r) (match
 -- the groups of the matches of an input
 abbrev pub groups_of_input : {S : Type 0} {g : _} → Regex → (S → Bool) → (S → List ℕ) → RegexInput S g → List (List (Option Span))
 groups_of_input r text bytes input = groups_of_each (group_count_in r) (matches_of_input r text bytes input)
+
+-- the groups of the matches that a request has as a list goes on
+abbrev pub groups_onward : Regex → Bool → List ℕ → Request → Onward → List (List (Option Span))
+groups_onward r text haystack request o = groups_of_each (group_count_in r) (matches_onward r text haystack request o)
 
 -- the groups of the matches that are left
 abbrev pub groups_left : {S : Type 0} {g : _} → (S → Bool) → (S → List ℕ) → CaptureMatches S g → List (List (Option Span))

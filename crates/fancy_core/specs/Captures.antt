@@ -5,11 +5,12 @@ use Rattle.fancy_input.specs.declared.span.Span.{Span}
 use Rattle.fancy_core.specs.declared.captures.Captures.{Captures}
 use Rattle.fancy_core.specs.declared.captures.views.SubCaptureMatches.{SubCaptureMatches}
 use Rattle.fancy_core.specs.declared.regex.Regex.{Regex}
+use Rattle.fancy_search.specs.Groups.{spans_held}
 use Rattle.fancy_core.specs.CaptureNames.{span_named}
 
 -- the spans of the groups, in order
 abbrev pub spans_in : {S : Type 0} {g : _} → Captures S g → List (Option Span)
-spans_in captures = captures.slots.items
+spans_in captures = spans_held captures.groups
 
 -- the spans of the groups of captures, if there are any
 abbrev pub spans_if : {S : Type 0} {g : _} → Option (Captures S g) → Option (List (Option Span))

@@ -6,6 +6,7 @@ use Rattle.fancy_input.specs.declared.input.Request.{Request}
 use Rattle.fancy_core.specs.declared.regex.Regex.{Regex}
 use Rattle.fancy_core.specs.declared.iter.Matches.{Matches}
 use Rattle.fancy_core.specs.Regexes.{program_in}
+use Rattle.fancy_search.specs.declared.searcher.Onward.{Onward}
 use Rattle.fancy_search.specs.MatchList.{Scan, MatchItem, span_of_item}
 use Rattle.fancy_search.specs.Remaining.{Standing, scan, items_left, items_end, turns_left, next_start, refused_next, allowed_next}
 use Rattle.fancy_core.specs.NextAnswers.{ByAnswer}
@@ -20,6 +21,10 @@ haystack_of m = m.searcher.haystack
 -- what the next search is asked
 abbrev pub next_request : {S : Type 0} {g : _} → Matches S g → Request
 next_request m = m.searcher.request
+
+-- how it goes on from there
+abbrev pub onward_of : {S : Type 0} {g : _} → Matches S g → Onward
+onward_of m = record { continues = m.searcher.continues; skips_empty = m.searcher.skips_empty }
 
 -- whether nothing more comes
 abbrev pub has_ended : {S : Type 0} {g : _} → Matches S g → Bool

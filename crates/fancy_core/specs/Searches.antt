@@ -1,5 +1,5 @@
 -- What a search with a regex asks and finds, for any form of haystack: `bytes` gives the bytes of a haystack, and `text` says whether it is text.
-use Rattle.std.specs.Prelude.{◌≡◌, ℕ, Bool, List, Option, option_map}
+use Rattle.std.specs.Prelude.{◌≡◌, ℕ, Bool, false, List, Option, option_map}
 use Rattle.fancy_input.specs.declared.input.Request.{Request}
 use Rattle.fancy_input.specs.declared.regex_input.RegexInput.{RegexInput}
 use Rattle.fancy_input.specs.Inputs.{haystack_in, request_in}
@@ -9,7 +9,8 @@ use Rattle.fancy_code.specs.Search.{Query, search, attempt, span_of}
 use Rattle.fancy_search.specs.declared.options.Options.{Options}
 use Rattle.fancy_core.specs.declared.regex.Regex.{Regex}
 use Rattle.fancy_search.specs.Groups.{spans_of}
-use Rattle.fancy_search.specs.Remaining.{scan, program_matches, program_last_start}
+use Rattle.fancy_search.specs.declared.searcher.Onward.{Onward}
+use Rattle.fancy_search.specs.Remaining.{Standing, scan, program_matches, program_last_start, items_left, items_end}
 use Rattle.fancy_search.specs.MatchList.{Scan, MatchItem}
 use Rattle.fancy_core.specs.Regexes.{program_in, query}
 use Rattle.fancy_search.specs.Searching.{CanSearch}
@@ -50,7 +51,19 @@ groups_of_attempt q p = option_map (spans_of q.sought.groups) (attempt q p)
 abbrev pub matches_of : Regex → Bool → List ℕ → Request → List MatchItem
 matches_of r text haystack request = program_matches (program_in r) text haystack request
 
+-- where a list stands that goes on so from a start
+abbrev pub standing_onward : ℕ → Onward → Standing
+standing_onward start o = record { start = start; continues = o.continues; skips_empty = o.skips_empty; ended = false }
+
+-- the matches that a request has as a list goes on
+abbrev pub matches_onward : Regex → Bool → List ℕ → Request → Onward → List MatchItem
+matches_onward r text haystack request o = items_left (scan (program_in r) text haystack request) (standing_onward request.start o)
+
 -- where the search starts that finds none, at the end of these
+abbrev pub last_start_onward : Regex → Bool → List ℕ → Request → Onward → ℕ
+last_start_onward r text haystack request o = items_end (scan (program_in r) text haystack request) (standing_onward request.start o)
+
+-- where the search starts that finds none, at the end of the matches that a request has
 abbrev pub last_start_of : Regex → Bool → List ℕ → Request → ℕ
 last_start_of r text haystack request = program_last_start (program_in r) text haystack request
 

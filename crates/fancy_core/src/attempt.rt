@@ -261,6 +261,6 @@ pub fn captures_found<'r, S: Input>(
     ensures regex { IfOk result (λ c. found_by c ≡ regex.now) }
     ensures refused { IfErr result (λ e. e ≡ Memory) }
 {
-    let slots = groups_found(regex.allocator(), regex.captures_len(), found, cache)?;
-    Ok(Captures::new(regex, haystack, slots))
+    let groups = groups_found(regex.allocator(), regex.captures_len(), found, cache)?;
+    Ok(Captures::new(regex, haystack, groups))
 }

@@ -1,7 +1,7 @@
 //! The groups of a match.
 
 ghost use Rattle.std.specs.Prelude.{◌≡◌};
-ghost use Rattle.fancy_search.specs.Groups.{AreCut};
+ghost use Rattle.fancy_search.specs.Groups.{AreCut, spans_held};
 
 mod borrowed_text;
 mod named;
@@ -11,7 +11,7 @@ mod views;
 
 use crate::regex::Regex;
 use fancy_input::input::Haystack;
-use fancy_input::span::Span;
+use fancy_search::groups::GroupSpans;
 pub use views::{SubCaptureMatches, group_span};
 
 /// The groups of a match in a haystack of the form `S`, by their numbers: group 0 is the whole match, and the
@@ -28,6 +28,6 @@ pub use views::{SubCaptureMatches, group_span};
 pub struct Captures<'r, S: Haystack> {
     regex: &'r Regex,
     haystack: S,
-    slots: Vec<Option<Span>>,
-    pub ghost placed: { AreCut (S.text haystack) (S.bytes haystack) slots.items },
+    groups: GroupSpans,
+    pub ghost placed: { AreCut (S.text haystack) (S.bytes haystack) (spans_held groups) },
 }

@@ -128,7 +128,7 @@ impl Regex {
         let Some(found) = found else {
             return Ok(None);
         };
-        let slots = groups_found(self.allocator(), self.captures_len(), found, cache)?;
-        Ok(Some(Captures::new(self, haystack, slots)))
+        let groups = groups_found(self.allocator(), self.captures_len(), found, cache)?;
+        Ok(Some(Captures::new(self, haystack, groups)))
     }
 }

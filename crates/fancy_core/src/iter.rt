@@ -1,11 +1,11 @@
 //! Iterators over matches.
 
-ghost use Rattle.std.specs.Prelude.{◌≡◌, ◌<◌, ◌^◌};
+ghost use Rattle.std.specs.Prelude.{◌≡◌, ◌<◌, ◌^◌, false};
 ghost use Rattle.std.specs.Iterator.{at_most};
 ghost use Rattle.fancy_input.specs.Inputs.{haystack_in, request_in};
 ghost use Rattle.fancy_input.specs.Requests.{whole};
 ghost use Rattle.fancy_core.specs.Regexes.{options_in};
-ghost use Rattle.fancy_core.specs.Searches.{CanSearchInput, matches_in_whole, matches_of_input, last_start_in_whole, last_start_of_input};
+ghost use Rattle.fancy_core.specs.Searches.{CanSearchInput, matches_in_whole, matches_of_input, matches_onward, last_start_in_whole, last_start_of_input, last_start_onward};
 ghost use Rattle.fancy_search.specs.KeptTables.{Keeps};
 ghost use Rattle.fancy_search.specs.Searching.{Suits};
 
@@ -16,7 +16,7 @@ pub use captures::CaptureMatches;
 use fancy_input::input::{Haystack, Input};
 use fancy_input::regex_input::RegexInput;
 use fancy_search::cache::Cache;
-use fancy_search::searcher::Searcher;
+use fancy_search::searcher::{Onward, Searcher};
 use fancy_tree::error::Result;
 
 /// The matches of an input, one after another.
@@ -38,7 +38,7 @@ pub struct Matches<'r, S: Haystack> {
 }
 
 impl Regex {
-    ghost use Rattle.fancy_core.specs.Iterations.{left_in, end_in, items_bound, regex_in, haystack_of, next_request};
+    ghost use Rattle.fancy_core.specs.Iterations.{left_in, end_in, items_bound, regex_in, haystack_of, has_ended, next_request, onward_of};
 
     /// The matches in the haystack, from its start on.
     ///
@@ -88,10 +88,41 @@ impl Regex {
             cache: Cache::new(self.allocator()),
         }
     }
+
+    /// The matches that the input asks for, as a list goes on that came so far. So a list that was left can be gone on with: its
+    /// [`Matches::input`] and its [`Matches::onward`] are all that it takes. Where it had ended, it may give more.
+    ///
+    /// ```text
+    /// let mut matches = regex.find_iter("aab");    // of a*
+    /// matches.next()                               // Some: 0..2
+    /// let (input, onward) = (matches.input(), matches.onward());
+    /// regex.resume_matches(input, onward)          // 3..3
+    /// regex.find_iter_input(matches.input())       // 2..2, 3..3
+    /// ```
+    #[tactic(auto, using(fancy_search::proofs::ScanLemmas::few_turns))]
+    pub fn resume_matches<S: Input>(&self, input: RegexInput<S>, onward: Onward) -> Matches<'_, S>
+        requires searched { CanSearchInput S.text S.bytes (options_in self.now) input }
+        ensures matches { left_in S.text S.bytes result ≡ matches_onward self.now
+            (S.text (haystack_in input)) (S.bytes (haystack_in input)) (request_in input) onward }
+        ensures end { end_in S.text S.bytes result ≡ last_start_onward self.now
+            (S.text (haystack_in input)) (S.bytes (haystack_in input)) (request_in input) onward }
+        ensures countable { items_bound S.text S.bytes result < 2 ^ 64 }
+        ensures regex { regex_in result ≡ self.now }
+        ensures text { haystack_of result ≡ haystack_in input }
+        ensures request { next_request result ≡ request_in input }
+        ensures onward { onward_of result ≡ onward }
+        ensures goes_on { has_ended result ≡ false }
+    {
+        Matches {
+            regex: self,
+            searcher: Searcher::resume(input, onward),
+            cache: Cache::new(self.allocator()),
+        }
+    }
 }
 
 impl<'r, S: Input> Matches<'r, S> {
-    ghost use Rattle.fancy_core.specs.Iterations.{regex_in, haystack_of, next_request};
+    ghost use Rattle.fancy_core.specs.Iterations.{left_in, regex_in, haystack_of, has_ended, next_request, onward_of};
 
     /// The regex that searches.
     pub fn regex(&self) -> &'r Regex
@@ -123,6 +154,17 @@ impl<'r, S: Input> Matches<'r, S> {
         ensures request { request_in result ≡ next_request self.now }
     {
         self.searcher.input()
+    }
+
+    /// How the list goes on from where the next search starts, for [`Regex::resume_matches`]. Unless the list has ended, that gives
+    /// the matches that are left.
+    pub fn onward(&self) -> Onward
+        ensures onward { result ≡ onward_of self.now }
+        ensures left { has_ended self.now ≡ false → left_in S.text S.bytes self.now
+            ≡ matches_onward (regex_in self.now) (S.text (haystack_of self.now))
+            (S.bytes (haystack_of self.now)) (next_request self.now) result }
+    {
+        self.searcher.onward()
     }
 }
 

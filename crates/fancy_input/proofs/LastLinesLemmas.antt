@@ -1,6 +1,5 @@
 -- Where only line ends follow at one place, they do at each later one.
 use Rattle.std.proofs.Common.{◌≡◌, ℕ, zero, suc, ◌+◌, ◌-◌, ◌≤◌, ◌==◌, Bool, true, false, ◌&&◌, List, [], ◌∷◌, length, drop, if◌then◌else◌, refl, sym, ap, ◌∙◌, arith}
-use Rattle.std.proofs.Math.ListN.{drop_of_length-le}
 use Rattle.std.proofs.lemmas.List.{drop-drop}
 use Rattle.fancy_input.specs.declared.last_lines.Row.{Row}
 use Rattle.fancy_input.specs.Lines.{are_line_feeds, are_line_ends}
@@ -53,10 +52,6 @@ earlier crlf haystack p q le e = never_both (ends_only crlf (drop p haystack)) (
 nothing_is : (crlf : Bool) → ends_only crlf [] ≡ true
 nothing_is false = refl
 nothing_is true = refl
-
--- the end, and what is past it
-pub at_the_end : (crlf : Bool) (haystack : List ℕ) (p : ℕ) → length haystack ≤ p → ends_only crlf (drop p haystack) ≡ true
-at_the_end crlf haystack p le = ap (ends_only crlf) (drop_of_length-le haystack le) ∙ nothing_is crlf
 
 module _ (crlf : Bool) (haystack : List ℕ) (row : Row) (told : Told (ends_only crlf) haystack row) where
   -- something else stands at q

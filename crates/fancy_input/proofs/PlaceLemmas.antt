@@ -1,15 +1,12 @@
 -- Boundaries, and the steps between them.
-use Rattle.std.proofs.Common.{arith, ℕ, zero, suc, ◌+◌, ◌-◌, ◌<◌, ◌≤◌, ◌≡◌, ◌↔◌, Bool, true, false, List, [], ◌∷◌, length, drop, slice_index, IsTrue, IsCharBoundary, IsUtf8, refl, ap, subst, zero-add, suc-add, length-drop}
+use Rattle.std.proofs.Common.{arith, ℕ, zero, suc, ◌+◌, ◌-◌, ◌<◌, ◌≤◌, ◌≡◌, Bool, true, false, List, [], ◌∷◌, length, drop, slice_index, IsTrue, IsCharBoundary, IsUtf8, refl, ap, subst, zero-add, suc-add, length-drop}
 use Rattle.std.specs.Prelude.{if◌then◌else◌}
 use Rattle.std.proofs.lemmas.Str.{IsCharBoundary-start}
 use Rattle.std.proofs.lemmas.Grind.{common_steps}
 use Rattle.std.proofs.lemmas.Bool.Decides.{nat_tests}
-use Rattle.fancy_input.specs.Places.{is_boundary, is_continuation, is_place, continuations, prev_place, next_place}
+use Rattle.fancy_input.specs.Places.{is_boundary, is_continuation, continuations, prev_place, next_place}
 
--- the start, the end and what lies past it are boundaries, and so is each byte that continues no character
-pub is_boundary_at_start : (bs : List ℕ) → IsTrue (is_boundary bs 0)
-is_boundary_at_start bs = refl
-
+-- the end and what lies past it are boundaries, and so is each byte that continues no character
 pub is_boundary_past : (bs : List ℕ) (i : ℕ) → length bs ≤ i → IsTrue (is_boundary bs i)
 is_boundary_past bs i h = grind (arith, nat_tests, common_steps)
 
@@ -27,9 +24,6 @@ boundary_of_text bs (suc i) u l t = grind (arith, nat_tests, common_steps)
 pub text_of_boundary : (bs : List ℕ) (i : ℕ) → IsCharBoundary bs i → IsTrue (is_boundary bs i)
 text_of_boundary bs zero h = refl
 text_of_boundary bs (suc i) h = grind (arith, nat_tests, common_steps, h.0, h.1)
-
-pub is_boundary_iff : (bs : List ℕ) (i : ℕ) → IsUtf8 bs → i ≤ length bs → (is_boundary bs i ≡ true) ↔ IsCharBoundary bs i
-is_boundary_iff bs i u l = (boundary_of_text bs i u l, text_of_boundary bs i)
 
 -- back over one byte that continues a character
 pub prev_place_over : (bs : List ℕ) (i : ℕ) → is_continuation (slice_index bs i) ≡ true → prev_place bs (suc i) ≡ prev_place bs i
@@ -67,11 +61,6 @@ pub prev_place_at_most : (bs : List ℕ) (i : ℕ) → prev_place bs i ≤ i
 unfolding prev_place
 prev_place_at_most bs zero = omega arith
 prev_place_at_most bs (suc i) = let h = step_below bs i (is_continuation (slice_index bs i)) (prev_place_at_most bs i) in omega (arith, h)
-
-pub prev_place_below : (bs : List ℕ) (i : ℕ) → 0 < i → prev_place bs i < i
-unfolding prev_place
-prev_place_below bs zero h = absurd (omega arith)
-prev_place_below bs (suc i) h = step_below bs i (is_continuation (slice_index bs i)) (prev_place_at_most bs i)
 
 -- a byte above 0 that continues a character is no boundary
 inside_no_boundary : (bs : List ℕ) (j : ℕ) → 0 < j → j < length bs → is_continuation (slice_index bs j) ≡ true → is_boundary bs j ≡ false
@@ -121,14 +110,6 @@ continuations_within : (xs : List ℕ) → continuations xs ≤ length xs
 continuations_within [] = omega arith
 continuations_within (x ∷ xs) = count_within x xs (is_continuation x) (continuations_within xs)
 
-pub next_place_most : (text : Bool) (bs : List ℕ) (i : ℕ) → i ≤ length bs → next_place text bs i ≤ length bs + 1
-next_place_most true bs i h = omega (arith, continuations_within (drop (i + 1) bs), length-drop (i + 1) bs)
-next_place_most false bs i h = omega arith
-
-pub next_place_within : (text : Bool) (bs : List ℕ) (i : ℕ) → i < length bs → next_place text bs i ≤ length bs
-next_place_within true bs i h = omega (arith, continuations_within (drop (i + 1) bs), length-drop (i + 1) bs)
-next_place_within false bs i h = omega arith
-
 -- each byte that is counted continues a character
 counted : (x : ℕ) (xs : List ℕ) (b : Bool) (k : ℕ) → is_continuation x ≡ b → ((k' : ℕ) → k' < continuations xs → is_continuation (slice_index xs k') ≡ true)
     → k < (if b then suc (continuations xs) else zero) → is_continuation (slice_index (x ∷ xs) k) ≡ true
@@ -153,7 +134,3 @@ next_place_nearest bs i j lo hi =
     let short : k < continuations (drop (i + 1) bs) = omega arith in
     let inside : is_continuation (slice_index bs j) ≡ true = subst (λ (n : ℕ). is_continuation (slice_index bs n) ≡ true) e (continues_from bs (i + 1) k short) in
     inside_no_boundary bs j (omega arith) (omega (arith, continuations_within (drop (i + 1) bs), length-drop (i + 1) bs)) inside
-
--- of text the test of a place is that of std
-pub is_place_of_text : (bs : List ℕ) (i : ℕ) → IsUtf8 bs → IsTrue (is_place true bs i) ↔ IsCharBoundary bs i
-is_place_of_text bs i u = (λ h. boundary_of_text bs i u (grind (arith, nat_tests, common_steps)) (grind (arith, nat_tests, common_steps)), λ h. grind (arith, nat_tests, common_steps, text_of_boundary bs i h, h.0))

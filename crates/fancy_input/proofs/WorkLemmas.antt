@@ -39,9 +39,6 @@ one_return before after is =
 pub runs_from_start : (limit : Option ℕ) (w : Work) → RunsWithin limit w w
 runs_from_start limit w = record { units = refl; within = λ is. is }
 
-pub runs_same : (limit : Option ℕ) (before after : Work) → after ≡ before → RunsWithin limit before after
-runs_same limit before after e = subst (λ (w : Work). RunsWithin limit before w) (sym e) (runs_from_start limit before)
-
 -- what was done, and what was done then
 pub runs_on : (limit : Option ℕ) (a b c : Work) → RunsWithin limit a b → RunsWithin limit b c → RunsWithin limit a c
 runs_on limit a b c first after = record { units = after.units ∙ first.units; within = λ is. after.within (first.within is) }
@@ -50,12 +47,6 @@ runs_on limit a b c first after = record { units = after.units ∙ first.units; 
 still_within : (limit : Option ℕ) (before after : Work) → units_of after ≡ units_of before → steps_of after ≤ steps_of before → IsWithin limit before → IsWithin limit after
 still_within None before after units steps is = tt
 still_within (Some most) before after units steps is = omega (arith, units, steps, is)
-
--- a step where less was done than the limit allows
-step_within : (limit : Option ℕ) (before after : Work) → units_of after ≡ units_of before → steps_of after ≤ steps_of before + 1 → HasWorkLeft limit before
-    → IsWithin limit after
-step_within None before after units one left = tt
-step_within (Some most) before after units one left = omega (arith, units, one, left)
 
 -- a return is no work
 pub runs_back : (limit : Option ℕ) (before after : Work) → after ≡ went_back_within before → RunsWithin limit before after

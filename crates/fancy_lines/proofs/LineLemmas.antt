@@ -1,5 +1,5 @@
 -- The starts of the lines tell where a byte stands.
-use Rattle.std.proofs.Common.{◌≡◌, ℕ, zero, suc, ◌+◌, ◌-◌, ◌<◌, ◌≤◌, ◌==◌, Bool, true, false, leb, List, [], ◌∷◌, ◌++◌, length, take, get_or, append-nil, append_assoc, drop, refl, sym, ap, ◌∙◌, arith}
+use Rattle.std.proofs.Common.{◌≡◌, ℕ, zero, suc, ◌+◌, ◌-◌, ◌<◌, ◌≤◌, ◌==◌, Bool, true, false, leb, List, [], ◌∷◌, ◌++◌, length, take, get_or, append-nil, drop, refl, sym, ap, ◌∙◌, arith}
 use Rattle.std.proofs.lemmas.Grind.{common_steps}
 use Rattle.std.proofs.lemmas.List.{length-take-le, take_more}
 use Rattle.std.specs.List.Sorted.{IsNonDecreasingBy, IsPartitionPoint}
@@ -168,9 +168,6 @@ is_at text starts o row start whole le a s = record {
 pub same_row : (text : List ℕ) (o row place row' place' : ℕ) → IsAt text o row place → IsAt text o row' place' → row ≡ row'
 same_row text o row place row' place' a b = sym a.line ∙ b.line
 
-pub same_place : (text : List ℕ) (o row place row' place' : ℕ) → IsAt text o row place → IsAt text o row' place' → place ≡ place'
-same_place text o row place row' place' a b = sym a.column ∙ b.column
-
 -- the bytes of the loop that has read one more
 pub next_feed : (i : ℕ) (text starts before : List ℕ) → i < length text → (get_or text i 0 == 10) ≡ true → before ≡ starts_after 0 (take i text) → starts ≡ before ++ ((i + 1) ∷ []) → starts ≡ starts_after 0 (take (i + 1) text)
 next_feed i text starts before lt feed e f = rw (starts_next i text lt, feed) (f ∙ ap (λ (l : List ℕ). l ++ ((i + 1) ∷ [])) e)
@@ -204,14 +201,6 @@ since_by false n bytes h = let a = h (suc n) in omega (arith, a)
 pub since_bounded : (n : ℕ) (bytes : List ℕ) → since_break n bytes ≤ n + length bytes
 since_bounded n [] = omega arith
 since_bounded n (b ∷ bytes) = since_by (b == 10) n bytes (λ m. since_bounded m bytes)
-
--- no line feed so far
-pub until_next : (i : ℕ) (text : List ℕ) → i < length text → (get_or text i 0 == 10) ≡ false → until_break text ≡ take i text ++ until_break (drop i text) → until_break text ≡ take (i + 1) text ++ until_break (drop (i + 1) text)
-until_next i text lt other e =
-    let one : drop i text ≡ get_or text i 0 ∷ drop (i + 1) text = grind (arith, common_steps) in
-    let two : take (i + 1) text ≡ take i text ++ (get_or text i 0 ∷ []) = take_more text i 0 lt in
-    let three : until_break (get_or text i 0 ∷ drop (i + 1) text) ≡ get_or text i 0 ∷ until_break (drop (i + 1) text) = rw other refl in
-    rw (two, append_assoc (take i text) (get_or text i 0 ∷ []) (until_break (drop (i + 1) text))) (e ∙ ap (λ (l : List ℕ). take i text ++ l) (ap until_break one ∙ three))
 
 -- a line feed ends it
 pub until_feed : (i : ℕ) (text : List ℕ) → i < length text → (get_or text i 0 == 10) ≡ true → until_break text ≡ take i text ++ until_break (drop i text) → take i text ≡ until_break text

@@ -15,4 +15,6 @@ pub mod SetCountLemmas
 pub mod SetLimitLemmas
 pub mod TokenSearchLemmas
 pub mod TokenGivenLemmas
+pub mod TokenStartLemmas
+pub mod OnwardLemmas
 pub mod SetExampleLemmas

@@ -1,5 +1,5 @@
 -- What the answers of the members of a pattern set say of the set.
-use Rattle.std.proofs.Common.{◌≡◌, ℕ, zero, suc, ◌+◌, ◌-◌, ◌<◌, ◌≤◌, true, false, List, [], Option, Some, None, Ok, Err, IfNone, IsSome, option_map, is_some, length, slice_get, inl, inr, refl, sym, ◌∙◌, subst, arith}
+use Rattle.std.proofs.Common.{◌≡◌, ℕ, zero, suc, ◌+◌, ◌-◌, ◌<◌, ◌≤◌, ◌^◌, true, false, List, [], Option, Some, None, Ok, Err, IfNone, IsSome, option_map, is_some, length, slice_get, inl, inr, refl, sym, ◌∙◌, subst, arith}
 use Rattle.std.proofs.lemmas.Bool.Decides.{leb_tells}
 use Rattle.std.proofs.lemmas.Option.{slice_get_past}
 use Rattle.std.proofs.Math.Logic.{∥∥₁_elim}
@@ -17,6 +17,8 @@ use Rattle.fancy_core.specs.Captures.{found_by}
 use Rattle.fancy_core.specs.Limited.{RefusesAt, AllowsAt}
 use Rattle.fancy_core.specs.Regexes.{group_count_in, query}
 use Rattle.fancy_core.specs.Searches.{groups_of_attempt}
+use Rattle.fancy_regex.specs.declared.set.RegexSet.{RegexSet}
+use Rattle.fancy_regex.specs.Sets.{members_of}
 use Rattle.fancy_regex.specs.SetMembers.{SetQuery, asked, has_answer_at, members_at_from, members_at, any_answer_at, set_position, NoneBetween, IsMemberItem, MayStartAt, RefusesMember, RefusesSet}
 use Rattle.fancy_regex.specs.SetAnswers.{IsItemOf, IsFirstOfSet}
 use Rattle.fancy_regex.proofs.SetListLemmas.{nothing_kept, nothing_passes, nothing_found, kept_from, found_first, some_passes}
@@ -41,6 +43,10 @@ whole_of_groups n (Some f) spans h e = let same : spans ≡ spans_of n f = cc in
 
 pub some_group : (r : Regex) → 1 ≤ group_count_in r
 some_group r = ∥∥₁_elim r.program.compiled (hlevel props) (λ h. h.has_group_zero)
+
+-- a set has fewer members than a number has values
+pub few_members : (s : RegexSet) → length (members_of s) < 2 ^ 63
+few_members s = let counted = s.members.ok.0 in let held = s.members.ok.1 in let small = s.members.small in omega (arith, counted, held, small)
 
 -- what holds of none holds where there is none
 pub if_none : {A : Type 0} (P : Type 0) (o : Option A) → ((x : A) → o ≡ Some x → ⊥) → IfNone o P → P

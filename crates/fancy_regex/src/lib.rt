@@ -45,6 +45,7 @@ pub use fancy_input::span::Span;
 pub use fancy_input::work::Work;
 pub use fancy_lines::{LineColumn, LineIndex, line_at};
 pub use fancy_search::options::Options;
+pub use fancy_search::searcher::Onward;
 pub use fancy_syntax::flags::Flags;
 pub use fancy_syntax::laws as dialect_laws;
 pub use fancy_template::expander::Expander;

@@ -2,7 +2,7 @@
 use Rattle.std.proofs.Common.{◌≡◌, ℕ, ◌+◌, ◌≤◌, Bool, true, false, List, Option, Some, None, IfSome, IfNone, refl, sym, ap, ap₂, ◌∙◌, subst, arith, eqb-true, eq-eqb, true≢false}
 use Rattle.std.specs.Prelude.{nat_eq, option_map, if◌then◌else◌, Box}
 use Rattle.std.specs.Global.{Global}
-use Rattle.fancy_automaton.specs.declared.cells.Cells.{Cells}
+use Rattle.fancy_search.specs.declared.cache.RememberedSteps.{RememberedSteps}
 use Rattle.std.specs.Option.{ForSome}
 use Rattle.std.proofs.lemmas.Option.{none-some, same_Some}
 use Rattle.fancy_input.specs.Requests.{effective_start, positions}
@@ -25,7 +25,7 @@ use Rattle.fancy_search.specs.declared.program.Program.{Program}
 use Rattle.fancy_search.specs.declared.cache.Kept.{Kept}
 use Rattle.fancy_search.specs.declared.cache.Kept.TheVariants.{Nothing, Runner, Steps, Lines}
 use Rattle.fancy_search.specs.Options.{search_options}
-use Rattle.fancy_search.specs.KeptTables.{KeepsTable, KeepsSteps, KeepsLines, KeepsNotes, HoldsSteps, IsKeptIn, KeepsOn, table_kept, is_steps, kept_from}
+use Rattle.fancy_search.specs.KeptTables.{KeepsTable, KeepsSteps, KeepsLines, KeepsNotes, HoldsSteps, IsKeptIn, KeepsOn, table_kept, is_steps, keeps_no_table, kept_from}
 
 -- what is kept for a place is kept for a later one, whichever positions are tried
 pub kept_later : (code : Code) (haystack : List ℕ) (request : Request) (options : SearchOptions) (kept : KeptTable) (place later start : ℕ) (anchored : Bool) (notes : Notes) → place ≤ later
@@ -62,12 +62,13 @@ module _ (program : Program) (haystack : List ℕ) (cache : Cache) where
   found_table request None (Some f) is = ((λ base e. absurd (none-some base e)), (λ e. cc), (λ e. cc))
   found_table request (Some k) (Some f) is = keeps_table request k f.end is
 
-  pub found_steps : (request : Request) (kept : Kept) (m : Option Found) → is_steps kept ≡ true → KeepsSteps program cache.cells → IfSome m (λ f. IsKeptIn program haystack request kept f.end cache)
+  pub found_steps : (request : Request) (kept : Kept) (m : Option Found) → keeps_no_table kept ≡ true → KeepsSteps program cache.steps.cells → IfSome m (λ f. IsKeptIn program haystack request kept f.end cache)
   found_steps request kept None steps is = tt
   found_steps request Nothing (Some f) steps is = absurd (true≢false (sym steps))
-  found_steps request (Runner table) (Some f) steps is = absurd (true≢false (sym steps))
+  found_steps request (Runner None) (Some f) steps is = ((λ base e. absurd (none-some base e)), (λ e. cc), (λ e. cc))
+  found_steps request (Runner (Some k)) (Some f) steps is = absurd (true≢false (sym steps))
   found_steps request Lines (Some f) steps is = absurd (true≢false (sym steps))
-  found_steps request (Steps read) (Some f) steps is = ((λ base e. absurd (none-some base e)), (λ e. is), (λ e. cc))
+  found_steps request Steps (Some f) steps is = ((λ base e. absurd (none-some base e)), (λ e. is), (λ e. cc))
 
   pub found_lines : (request : Request) (m : Option Found) → IfSome m (λ f. KeepsLines haystack cache) → IfSome m (λ f. IsKeptIn program haystack request Lines f.end cache)
   found_lines request None is = tt
@@ -149,23 +150,24 @@ noted_after program haystack request position kept notes m left starts ends here
     reached (Some f) here = rw (eq-eqb f.start position here) (omega arith)
 
 -- where steps are kept, and held, they are kept for any place
-pub noted_steps : (program : Program) (haystack : List ℕ) (request : Request) (place : ℕ) (notes : AttemptNotes) → is_steps notes.kept ≡ true → HoldsSteps program notes.cells
+pub noted_steps : (program : Program) (haystack : List ℕ) (request : Request) (place : ℕ) (notes : AttemptNotes) → keeps_no_table notes.kept ≡ true → HoldsSteps program notes.steps
     → KeepsNotes program haystack request place notes
 noted_steps program haystack request place notes steps holds = rw (no_table notes.kept steps) (tt, λ _. holds) where
-  no_table : (kept : Kept) → is_steps kept ≡ true → table_kept kept ≡ None
+  no_table : (kept : Kept) → keeps_no_table kept ≡ true → table_kept kept ≡ None
   no_table Nothing e = refl
-  no_table (Runner table) e = absurd (true≢false (sym e))
-  no_table (Steps read) e = refl
+  no_table (Runner None) e = refl
+  no_table (Runner (Some k)) e = absurd (true≢false (sym e))
+  no_table Steps e = refl
   no_table Lines e = refl
 
 -- the steps that were held are taken out
-pub steps_taken : (program : Program) (held : Option (Box Cells Global)) (taken : Box Cells Global) → IfSome held (λ b. taken ≡ b) → HoldsSteps program held → KeepsSteps program taken.value
+pub steps_taken : (program : Program) (held : Option (Box RememberedSteps Global)) (taken : Box RememberedSteps Global) → IfSome held (λ b. taken ≡ b) → HoldsSteps program held → KeepsSteps program taken.value.cells
 steps_taken program (Some b) taken same holds = rw same holds.1
 steps_taken program None taken same holds = let never : false ≡ true = holds.0 in cc
 
 -- where none are held, they are not taken out
-pub noted_still : (program : Program) (haystack : List ℕ) (request : Request) (place : ℕ) (notes : AttemptNotes) → notes.cells ≡ None
-    → KeepsNotes program haystack request place notes → KeepsNotes program haystack request place (record notes { cells = None })
+pub noted_still : (program : Program) (haystack : List ℕ) (request : Request) (place : ℕ) (notes : AttemptNotes) → notes.steps ≡ None
+    → KeepsNotes program haystack request place notes → KeepsNotes program haystack request place (record notes { steps = None })
 noted_still program haystack request place notes none is = (is.0, λ steps. subst (HoldsSteps program) none (is.1 steps))
 
 -- an attempt at a position that finds where it starts starts at the position

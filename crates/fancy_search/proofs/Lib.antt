@@ -12,5 +12,6 @@ pub mod IterationStepLemmas
 pub mod SpelledLemmas
 pub mod StartLemmas
 mod HoldLemmas
+mod OneItemLemmas
 pub mod TriedAtLemmas
 pub mod KeptTablesLemmas

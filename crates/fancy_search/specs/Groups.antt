@@ -1,10 +1,12 @@
 -- The groups of a match, as spans of byte offsets. Group 0 is the match itself.
-use Rattle.std.specs.Prelude.{◌≡◌, ◌≤◌, ◌==◌, ℕ, Bool, true, List, length, map, Option, Some, None, IfSome, if◌then◌else◌, IsTrue, slice_index_or, slice_range}
+use Rattle.std.specs.Prelude.{◌≡◌, ◌≤◌, ◌==◌, ◌∷◌, [], ℕ, Bool, true, List, length, map, Option, Some, None, IfSome, if◌then◌else◌, IsTrue, slice_index_or, slice_range}
 use Rattle.std.specs.List.{range_with_len}
 use Rattle.fancy_input.specs.Places.{is_boundary}
 use Rattle.fancy_input.specs.declared.span.Span.{Span}
 use Rattle.fancy_code.specs.Context.{group_span}
 use Rattle.fancy_code.specs.Search.{Answer, span_of}
+use Rattle.fancy_search.specs.declared.groups.GroupSpans.{GroupSpans}
+use Rattle.fancy_search.specs.declared.groups.GroupSpans.TheVariants.{Alone, Each}
 
 -- the span of one group, if it took part
 abbrev pub span_of_group : Answer → ℕ → Option Span
@@ -13,6 +15,11 @@ span_of_group f number = if number == 0 then Some (span_of f) else group_span f.
 -- the spans of the first n groups
 abbrev pub spans_of : ℕ → Answer → List (Option Span)
 spans_of n f = map (span_of_group f) (range_with_len 0 n)
+
+-- the spans that are held
+abbrev pub spans_held : GroupSpans → List (Option Span)
+spans_held (Alone span) = Some span ∷ []
+spans_held (Each spans) = spans.items
 
 -- the span of a group among these; none past the last
 abbrev pub span_at : List (Option Span) → ℕ → Option Span

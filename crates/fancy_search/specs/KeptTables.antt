@@ -20,6 +20,7 @@ use Rattle.fancy_search.specs.declared.asked.Asked.{Asked}
 use Rattle.fancy_search.specs.declared.cache.AttemptNotes.{AttemptNotes}
 use Rattle.fancy_search.specs.declared.cache.Cache.{Cache}
 use Rattle.fancy_search.specs.declared.cache.Kept.{Kept}
+use Rattle.fancy_search.specs.declared.cache.RememberedSteps.{RememberedSteps}
 use Rattle.fancy_search.specs.declared.cache.Kept.TheVariants.{Nothing, Runner, Steps, Lines}
 use Rattle.fancy_search.specs.declared.program.Program.{Program}
 use Rattle.fancy_search.specs.declared.searcher.Searcher.{Searcher}
@@ -30,8 +31,16 @@ use Rattle.fancy_search.specs.Programs.{program_length}
 abbrev pub is_steps : Kept → Bool
 is_steps Nothing = false
 is_steps (Runner kept) = false
-is_steps (Steps read) = true
+is_steps Steps = true
 is_steps Lines = false
+
+-- something is kept, and no table
+abbrev pub keeps_no_table : Kept → Bool
+keeps_no_table Nothing = false
+keeps_no_table (Runner None) = true
+keeps_no_table (Runner (Some k)) = false
+keeps_no_table Steps = true
+keeps_no_table Lines = false
 
 -- The table in the cache is kept for searches with the program that start at `place` or later. What was read of the last lines is true
 -- of the haystack.
@@ -42,7 +51,7 @@ KeepsTable program haystack request kept place cache = IsKept program.code hayst
 abbrev pub table_kept : Kept → Option KeptTable
 table_kept Nothing = None
 table_kept (Runner kept) = kept
-table_kept (Steps read) = None
+table_kept Steps = None
 table_kept Lines = None
 
 -- so many steps are ahead of the searches from one with this request on, with the table that is kept, if one is
@@ -77,14 +86,14 @@ abbrev pub KeepsSteps : Program → Cells → Type 0
 KeepsSteps program cells = Remembers cells program.code × IsBounded cells
 
 -- some are held, and these are
-abbrev pub HoldsSteps : Program → Option (Box Cells) → Type 0
-HoldsSteps program held = (is_some held ≡ true) × IfSome held (λ cells. KeepsSteps program cells.value)
+abbrev pub HoldsSteps : Program → Option (Box RememberedSteps) → Type 0
+HoldsSteps program held = (is_some held ≡ true) × IfSome held (λ steps. KeepsSteps program steps.value.cells)
 
 -- What attempts found out is kept for those at `place` or later. It is the same whichever positions the request tries.
 abbrev pub KeepsNotes : Program → List ℕ → Request → ℕ → AttemptNotes → Type 0
 KeepsNotes program haystack request place notes =
     IfSome (table_kept notes.kept) (λ k. IsKept program.code haystack (record request { start = 0; anchored = false }) (search_options program.options) k place notes.notes)
-    × (is_steps notes.kept ≡ true → HoldsSteps program notes.cells)
+    × (is_steps notes.kept ≡ true → HoldsSteps program notes.steps)
 
 -- From there on the notes of an attempt at a position are kept: from the end of a match that starts at the position, and else from the
 -- position.
@@ -117,7 +126,7 @@ KeepsLines haystack cache = KnowsLastLines haystack (lines_held cache.machine)
 -- what is kept in the cache, if anything is, is for searches with the program that start at `place` or later
 abbrev pub IsKeptIn : Program → List ℕ → Request → Kept → ℕ → Cache → Type 0
 IsKeptIn program haystack request kept place cache =
-    ForSome (table_kept kept) (λ k. KeepsTable program haystack request k place cache) × (is_steps kept ≡ true → KeepsSteps program cache.cells)
+    ForSome (table_kept kept) (λ k. KeepsTable program haystack request k place cache) × (is_steps kept ≡ true → KeepsSteps program cache.steps.cells)
     × (kept ≡ Lines → KeepsLines haystack cache)
 
 -- and for those that ask the same, but start at `place` or later

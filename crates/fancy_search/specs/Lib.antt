@@ -17,4 +17,5 @@ pub mod Searchers
 pub mod FoundItems
 pub mod ByteSets
 pub mod Starts
+pub mod OneItem
 pub mod KeptTables

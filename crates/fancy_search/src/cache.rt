@@ -37,14 +37,14 @@ pub enum Kept {
     Nothing,
     /// The runner's table, if the runner left one. It serves the next search too.
     Runner(Option<KeptTable>),
-    /// The steps that the automaton remembers, of searches that read so far.
-    Steps(ReadPast),
+    /// The steps that the automaton remembers.
+    Steps,
     /// What the machine read of the line ends that close the haystack.
     Lines,
 }
 
 impl Kept {
-    ghost use Rattle.fancy_search.specs.KeptTables.{is_steps, table_kept};
+    ghost use Rattle.fancy_search.specs.KeptTables.{table_kept};
 
     /// The table, if one is kept.
     pub(crate) fn table(self) -> Option<KeptTable>
@@ -57,30 +57,15 @@ impl Kept {
     }
 
     /// Whether a search is worth the automaton's steps: its text is not shorter than `shortest`, or the steps of searches before
-    /// are kept, which did not read much more than they came on by.
+    /// are kept.
     pub(crate) fn is_worth_steps(self, haystack: &[u8], request: Request, shortest: Lengths) -> bool
         ensures { result ≡ true → table_kept self ≡ None }
     {
         match self {
             Kept::Nothing => is_long_enough(haystack, request, shortest),
-            Kept::Steps(read) => read.is_little(),
+            Kept::Steps => true,
             Kept::Runner(_) | Kept::Lines => false,
         }
-    }
-
-    /// Makes steps ready for a search that begins at `first`, a byte offset: those of the searches before, where they are kept, and else
-    /// none. How far these read is told.
-    pub(crate) fn ready(self, cells: &mut Cells, first: usize) -> ReadPast
-        requires within { is_steps self ≡ true → IsBounded cells.old }
-        ensures within { IsBounded cells.new }
-        ensures all { (code : Code) → (is_steps self ≡ true → Remembers cells.old code)
-            → Remembers cells.new code }
-    {
-        if let Kept::Steps(read) = self {
-            return read;
-        }
-        cells.clear();
-        ReadPast::new(first)
     }
 
     /// Whether it is kept what the machine read.
@@ -91,13 +76,60 @@ impl Kept {
     }
 }
 
+/// The steps that the automaton remembers, and how far the searches by it read on.
+#[derive(Drop)]
+pub struct RememberedSteps {
+    pub(crate) cells: Cells,
+    read: ReadPast,
+}
+
+impl RememberedSteps {
+    ghost use Rattle.fancy_search.specs.KeptTables.{is_steps, keeps_no_table};
+
+    /// None is remembered, and no memory is taken.
+    pub(crate) fn new(alloc: Global) -> RememberedSteps {
+        RememberedSteps {
+            cells: Cells::new(alloc),
+            read: ReadPast::new(0),
+        }
+    }
+
+    /// Makes them ready for a search that begins at `first`, a byte offset: those of the searches before stay, where they are kept,
+    /// and else none is remembered.
+    pub(crate) fn ready(&mut self, kept: Kept, first: usize)
+        requires within { is_steps kept ≡ true → IsBounded self.old.cells }
+        ensures within { IsBounded self.new.cells }
+        ensures all { (code : Code) → (is_steps kept ≡ true → Remembers self.old.cells code)
+            → Remembers self.new.cells code }
+    {
+        if !matches!(kept, Kept::Steps) {
+            self.cells.clear();
+            self.read = ReadPast::new(first);
+        }
+    }
+
+    /// What is kept after a search that ended at `end`, a byte offset: the steps, or no more once searches read much more than they
+    /// came on by.
+    pub(crate) fn kept_after(&mut self, end: usize) -> Kept
+        ensures cells { self.new.cells ≡ self.old.cells }
+        ensures left { keeps_no_table result ≡ true }
+    {
+        self.read.add(end, self.cells.reached());
+        if self.read.is_little() {
+            Kept::Steps
+        } else {
+            Kept::Runner(None)
+        }
+    }
+}
+
 /// What the attempts with one program in one haystack found out, kept from position to position.
 pub struct AttemptNotes {
     // what is kept for the next attempt: where it is a table, in the notes
     pub(crate) kept: Kept,
     pub(crate) notes: Notes,
     // the steps that the automaton remembers, once it served
-    pub(crate) cells: Option<Box<Cells>>,
+    pub(crate) steps: Option<Box<RememberedSteps>>,
 }
 
 /// By hand, so that crates above do not prove it once more.
@@ -106,7 +138,7 @@ impl Drop for AttemptNotes {
         let AttemptNotes {
             kept: _,
             notes: _,
-            cells: _,
+            steps: _,
         } = self;
     }
 }
@@ -121,19 +153,19 @@ impl AttemptNotes {
         AttemptNotes {
             kept: Kept::Nothing,
             notes: Notes::new(alloc),
-            cells: None,
+            steps: None,
         }
     }
 
     /// Takes the steps that the automaton remembers out of the notes. Where there are none yet, memory for them is taken.
-    pub(crate) fn take_cells(&mut self, alloc: Global) -> Result<Box<Cells>, AllocError>
-        ensures given { IfOk result (λ cells. IfSome self.old.cells (λ held. cells ≡ held)) }
-        ensures refused { IfErr result (λ _. self.old.cells ≡ None) }
-        ensures others { self.new ≡ record self.old { cells = None } }
+    pub(crate) fn take_steps(&mut self, alloc: Global) -> Result<Box<RememberedSteps>, AllocError>
+        ensures given { IfOk result (λ steps. IfSome self.old.steps (λ held. steps ≡ held)) }
+        ensures refused { IfErr result (λ _. self.old.steps ≡ None) }
+        ensures others { self.new ≡ record self.old { steps = None } }
     {
-        match self.cells.take() {
-            Some(cells) => Ok(cells),
-            None => Ok(Box::new(alloc, Cells::new(alloc))?),
+        match self.steps.take() {
+            Some(steps) => Ok(steps),
+            None => Ok(Box::new(alloc, RememberedSteps::new(alloc))?),
         }
     }
 }
@@ -172,7 +204,7 @@ impl AttemptCache {
 pub struct Cache {
     pub(crate) runner: runner::Cache,
     pub(crate) machine: machine::Cache,
-    pub(crate) cells: Cells,
+    pub(crate) steps: RememberedSteps,
     /// Which engine worked in it last.
     pub(crate) served: Engine,
 }
@@ -187,7 +219,7 @@ impl Cache {
         Cache {
             runner: runner::Cache::new(alloc),
             machine: machine::Cache::new(alloc),
-            cells: Cells::new(alloc),
+            steps: RememberedSteps::new(alloc),
             served: Engine::Runner,
         }
     }

@@ -6,6 +6,7 @@ pub mod byte_sets;
 pub mod cache;
 mod following;
 pub mod groups;
+mod one_item;
 pub mod options;
 pub mod program;
 mod read_past;

@@ -33,10 +33,10 @@ ghost use Rattle.fancy_search.specs.ProgramSize.{IsRefusedUnder, RefusesPattern,
 ghost use Rattle.fancy_search.specs.Cached.{IsAnswerIn, IsAttemptIn};
 
 use crate::asked::Asked;
-use crate::cache::{AttemptCache, AttemptNotes, Cache, Engine, Kept};
+use crate::cache::{AttemptCache, AttemptNotes, Cache, Engine, Kept, RememberedSteps};
 use crate::following::{Lengths, is_worth_following, shortest_followed};
+use crate::one_item::reads_one_item;
 use crate::options::Options;
-use fancy_automaton::cells::Cells;
 use fancy_automaton::plain::is_plain;
 use fancy_automaton::search as automaton;
 use fancy_bytes::lacking::{KnownBytes, RequiredBytes};
@@ -178,8 +178,9 @@ impl Program {
     ghost use Rattle.fancy_search.specs.SearchCounts.{RefusesEasy, IsOutOfSteps, AllowsAllSteps, tried_by, is_hopeless, IfFound, IsHardProgram, RefusesQuery, RefusesAttempt, AllowsAttempt, HasRoomFor, step_bound};
     ghost use Rattle.fancy_search.specs.Programs.{program_pattern, program_options, program_groups, program_names, program_length, program_is_easy, asked_of, query_in};
     ghost use Rattle.fancy_search.specs.Served.{IsPosition, StandsIn, KeepsCounts, CountsReturns, HeedsStackLimit, Serves, ServesEasily};
+    ghost use Rattle.fancy_search.specs.OneItem.{EndsByOne};
     ghost use Rattle.fancy_search.specs.Starts.{may_start, NeverHolds};
-    ghost use Rattle.fancy_search.specs.KeptTables.{KeepsTable, KeepsSteps, KeepsLines, IsKeptIn, IsKeptFor, KeepsNotes, LeavesNotes, table_kept, ahead_with, most_with, notes_to_go, TakesStepsToGo, SpendsSteps, KeepsOn, notes_ahead, is_steps};
+    ghost use Rattle.fancy_search.specs.KeptTables.{KeepsTable, KeepsSteps, KeepsLines, IsKeptIn, IsKeptFor, KeepsNotes, LeavesNotes, table_kept, ahead_with, most_with, notes_to_go, TakesStepsToGo, SpendsSteps, KeepsOn, notes_ahead, is_steps, keeps_no_table};
     ghost use Rattle.fancy_search.specs.Options.{search_options};
 
     /// Reads a pattern under these options, and compiles it.
@@ -288,6 +289,17 @@ impl Program {
         !self.easy || self.code.prefilter.opening.may_hold(place, byte)
     }
 
+    /// Whether the pattern is one item, as far as its code tells, so that no match goes past an ASCII character that it starts with. For
+    /// a hard pattern the answer is `false`.
+    pub fn is_one_item(&self) -> bool
+        ensures { result ≡ true → EndsByOne self.now }
+    {
+        if !self.easy {
+            return false;
+        }
+        reads_one_item(&self.code)
+    }
+
     /// The first match that is asked for in the bytes of a haystack. Its groups stand in `cache` then.
     ///
     /// Under `seek` positions are passed over where no match begins, as the first bytes tell, and no step is taken where none is left,
@@ -386,7 +398,7 @@ impl Program {
     {
         if self.is_followed(asked, *kept) && self.allows_all_steps(asked.request, work) {
             cache.served = Engine::Automaton(self.code.groups);
-            return self.follow(asked.haystack, asked.request, kept, &mut cache.cells, work);
+            return self.follow(asked.haystack, asked.request, kept, &mut cache.steps, work);
         }
         let mut table = kept.table();
         *kept = Kept::Nothing;
@@ -453,12 +465,13 @@ impl Program {
     }
 
     /// The search for an easy pattern, by the automaton. No group takes part in what it finds.
+    #[inline(always)]
     fn follow(
         &self,
         haystack: &[u8],
         request: Request,
         kept: &mut Kept,
-        cells: &mut Cells,
+        steps: &mut RememberedSteps,
         work: &mut Work,
     ) -> Result<Option<Found>>
         requires inside { request.range_end ≤ length haystack.now }
@@ -468,27 +481,34 @@ impl Program {
             (search_options self.now.options).on_boundaries }
         requires room { HasRoomFor self.now request work.old }
         requires allowed { AllowsAllSteps self.now request work.old }
-        requires kept { is_steps kept.old ≡ true → KeepsSteps self.now cells.old }
+        requires kept { is_steps kept.old ≡ true → KeepsSteps self.now steps.old.cells }
         ensures answer { IfOk result (λ m. (on : Bool)
             → answer_with (replicate (program_groups self.now) None) m
             ≡ search (asked_of self.now haystack.now request on)) }
         ensures counts { KeepsCounts self.now result work.old work.new }
         ensures idle { (on : Bool) → NoneTried (program_options self.now).seek
             (asked_of self.now haystack.now request on) → steps_of work.new ≡ steps_of work.old }
-        ensures kept { KeepsSteps self.now cells.new }
-        ensures left { is_steps kept.new ≡ true }
+        ensures kept { KeepsSteps self.now steps.new.cells }
+        ensures left { keeps_no_table kept.new ≡ true }
         ensures bounded { steps_of work.new ≤ steps_of work.old + step_bound self.now request }
         ensures returns { returns_of work.new ≡ returns_of work.old }
         ensures units { units_of work.new ≡ units_of work.old }
         ensures refused { IfErr result (λ e. e ≡ Error.Memory) }
     {
         let first = request.effective_start();
-        let read = kept.ready(cells, first);
-        *kept = Kept::Steps(read);
+        steps.ready(*kept, first);
+        *kept = Kept::Steps;
         let options = self.options.for_search();
-        match automaton::find(&self.code, haystack, request, options, cells, work) {
+        match automaton::find(
+            &self.code,
+            haystack,
+            request,
+            options,
+            &mut steps.cells,
+            work,
+        ) {
             Ok(found) => {
-                *kept = Kept::Steps(read.after(end_of(found, first), cells.reached()));
+                *kept = steps.kept_after(end_of(found, first));
                 Ok(found)
             }
             Err(_) => Err(Error::Memory),
@@ -732,13 +752,13 @@ impl Program {
         ensures refused { IfErr result (RefusesEasy self.now) }
     {
         let from_position = anchored_at(asked.request, position);
-        let Ok(mut cells) = notes.take_cells(*self.text.allocator()) else {
+        let Ok(mut steps) = notes.take_steps(*self.text.allocator()) else {
             return Err(Error::Memory);
         };
         cache.served = Engine::Automaton(self.code.groups);
         let kept = &mut notes.kept;
-        let found = self.follow(asked.haystack, from_position, kept, &mut cells, work);
-        notes.cells = Some(cells);
+        let found = self.follow(asked.haystack, from_position, kept, &mut steps, work);
+        notes.steps = Some(steps);
         found
     }
 

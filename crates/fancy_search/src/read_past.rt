@@ -8,7 +8,7 @@ const READ_PAST: usize = 1024;
 const MADE_UP: usize = 4;
 
 /// How far the searches of a list read past their ends, or the attempts from place to place.
-#[derive(Clone, Copy, PartialEq, Eq)]
+#[derive(Clone, Copy)]
 pub struct ReadPast {
     /// How many bytes they read past their ends, that were not made up for.
     bytes: usize,
@@ -25,20 +25,18 @@ impl ReadPast {
         }
     }
 
-    /// After one more search, which ended at `end` and read up to `reached`, byte offsets. It ended where its match does, or where it
+    /// Adds one more search, which ended at `end` and read up to `reached`, byte offsets. It ended where its match does, or where it
     /// began if it found none.
-    pub(crate) fn after(self, end: usize, reached: usize) -> ReadPast {
+    pub(crate) fn add(&mut self, end: usize, reached: usize) {
         let past = reached.saturating_sub(end);
         let forth = end.saturating_sub(self.place);
         let read = self.bytes.saturating_add(past);
-        ReadPast {
-            bytes: read.saturating_sub(forth.saturating_mul(MADE_UP)),
-            place: end,
-        }
+        self.bytes = read.saturating_sub(forth.saturating_mul(MADE_UP));
+        self.place = end;
     }
 
     /// Whether they did not read much more than they came on by.
-    pub(crate) fn is_little(self) -> bool {
+    pub(crate) fn is_little(&self) -> bool {
         self.bytes <= READ_PAST
     }
 }

@@ -5,7 +5,7 @@ use Rattle.std.proofs.lemmas.List.{nil_from_length}
 use Rattle.fancy_tree.specs.Limits.{most_parentheses}
 use Rattle.fancy_tree.specs.Pattern.{Pattern, backreference, in_sequence, in_branches}
 use Rattle.fancy_tree.specs.Text.{Text}
-use Rattle.fancy_class.specs.Words.{is_at_any, is_at}
+use Rattle.fancy_class.specs.Words.{is_at}
 use Rattle.fancy_syntax.specs.Dialect.{Scope, with_part}
 use Rattle.fancy_syntax.specs.Grammar.{Place, place_past, after_blanks, Opening, setting, plain, capture, marked, reference, chooses, condition, opens_group, asks, parentheses, opening_here, IsAtom, with_quantifier, wrap, after_group, ends_branch, BranchesReading, last, more, PartsReading, none, next, Opens, at_once, after_condition, ItemReading, sets, refers_by_name, single, grouped, start, Reads}
 use Rattle.fancy_tree.specs.declared.error.Error.{Error}
@@ -29,10 +29,6 @@ MemoryOr-weaker Memory f h = tt
 MemoryOr-weaker (ParseError at kind) f h = f h
 MemoryOr-weaker (CompileError why) f h = absurd h
 MemoryOr-weaker (RuntimeError why) f h = absurd h
-
-pub is_at_any_some : (cs t : List ℕ) → is_at_any cs t ≡ true → 0 < length t
-is_at_any_some cs [] h = cc
-is_at_any_some cs (c ∷ t) h = omega arith
 
 -- the readings from p are those from q with these in front
 pub record GoesOn (R : Place → List Pattern → Place → Type 0) (p : Place) (done : List Pattern) (q : Place) : Type 0 where
@@ -389,10 +385,6 @@ found_group (Marked how) h f n = refl
 found_group (Reference folded index) h f n = absurd (f folded index refl)
 found_group (Chooses c) h f n = refl
 found_group Condition h f n = absurd (true_is_false n)
-
--- a pattern is its branches
-pub none_joined : {k : ℕ} {p : Place} → HasNoReading (BranchesReading k) p → HasNoReading (Alternation k) p
-none_joined nothing t r (bs, is, x) = nothing bs r x
 
 pub joined : {k : ℕ} {p q : Place} {bs : List Pattern} (t : Pattern) → IsTheReading (BranchesReading k) p bs q → t ≡ in_branches bs → IsTheReading (Alternation k) p t q
 joined {bs = bs} t h is = (

@@ -17,9 +17,9 @@ use Rattle.fancy_tree.specs.Names.{is_name_character, is_name, name_here, past_n
 use Rattle.fancy_syntax.specs.References as references
 use Rattle.fancy_syntax.specs.References.{Target, called, group_condition, is_left_out}
 use Rattle.fancy_syntax.specs.Dialect as d
-use Rattle.fancy_syntax.specs.Dialect.{Flags, Scope, in_force, Setting, one_more_group, one_more_name, NameMark, name_mark, name_mark_after_p, GroupMark, mark_atomic, mark_ahead, mark_not_ahead, mark_behind, mark_not_behind, inside, wants, test_here, Condition, TestsNoGroup, back_to, ReadsAtom, begins_quantifier, Quantifier, optional, asterisk, plus, exactly, at_least, between, at_most, Quantifies, greedily, lazily, possessively, Blanks, IsUnquantified, with_part}
+use Rattle.fancy_syntax.specs.Dialect.{Flags, Scope, in_force, Setting, one_more_group, one_more_name, NameMark, name_mark, name_mark_after_p, GroupMark, mark_atomic, mark_ahead, mark_not_ahead, mark_behind, mark_not_behind, inside, wants, test_here, Condition, TestsNoGroup, back_to, ReadsAtom, begins_quantifier, Quantifier, optional, asterisk, plus, exactly, at_least, between, at_most, Quantifies, greedily, lazily, possessively, Blanks, IsUnquantified}
 use Rattle.fancy_syntax.specs.Grammar as g
-use Rattle.fancy_syntax.specs.Grammar.{Place, place_past, past_blanks, after_blanks, RepeatBounds, bounds_in, past_count, are_bounds, opening_here, opens_group, parentheses, wrap, after_group, ends_branch, start}
+use Rattle.fancy_syntax.specs.Grammar.{Place, place_past, past_blanks, after_blanks, RepeatBounds, bounds_in, past_count, are_bounds, opening_here, opens_group, parentheses, wrap, ends_branch, start}
 use Rattle.fancy_tree.proofs.Facts.{some_pair, some_is_none, chosen, same_some, char_is, either_no, both_true, left_of}
 use Rattle.fancy_syntax.proofs.ParserLemmas.{referred}
 use Rattle.fancy_syntax.proofs.ReferenceLemmas.{ends_reference, reference_begins, no_paren_begun, no_end_begun, no_blank_begun}

@@ -17,9 +17,6 @@ whole_row : (p : ℕ → Bool) (t : Text) → list_all p t ≡ true → row p t 
 whole_row p [] e = refl
 whole_row p (c ∷ t) e = whole_row_at p c t (p c) refl e (whole_row p t)
 
-pub no_digits : (t : Text) → list_all is_ascii_digit t ≡ false → None ≡ as_number t
-no_digits t e = rw e refl
-
 -- what `parse` makes of digits
 pub digits_parsed : {E : Type 0} (d : List ℕ) (r : Result ℕ E) → IsUtf8 d → list_all is_ascii_digit (chars d) ≡ true → ParsesUnsigned 64 10 d r → MatchResult r (λ n. Some n ≡ as_number (chars d)) (λ e. None ≡ as_number (chars d))
 digits_parsed {E} d r u a h = by r (row_parsed {E = E} (chars d) d r u (sym (whole_row is_ascii_digit (chars d) a)) h)

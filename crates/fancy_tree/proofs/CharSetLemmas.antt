@@ -141,7 +141,3 @@ table_more ws p i word within table bits c lt =
           let told = table c (omega arith) in
           (λ set. told.0 (sym here ∙ set), λ is. here ∙ told.1 is)
     ]
-
--- a table without words says nothing
-pub table_none : (ws : List ℕ) (p : ℕ → Bool) → ws ≡ [] → IsTable ws (length ws) p
-table_none ws p is c lt = let none : length ws ≡ 0 = ap length is in absurd (omega arith)

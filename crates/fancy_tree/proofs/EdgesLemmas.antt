@@ -232,17 +232,6 @@ merged_done {op} {a} {b} {out} {i} {j} {low} m p q c =
       | inr h ↦ has_cut out _ c (cut_end (c + 1) m.below (omega arith) (omega arith)) ∙ (m.turns ∙ sym (ap₂ op (has_cut a _ c (cut_end (c + 1) m.left p (omega arith))) (has_cut b _ c (cut_end (c + 1) m.right q (omega arith)))))
     ]
 
-pub merged_edges : {op : Bool → Bool → Bool} {a b out : List ℕ} {i j low : ℕ} → Merged op a b out i j low → length a ≤ i → length b ≤ j → op false false ≡ false →
-    is_odd (length a) ≡ false → is_odd (length b) ≡ false → AreEdges out
-merged_edges {op} {a} {b} {out} {i} {j} {low} m p q e x y =
-    let hi : i ≡ length a = let z = m.left.count in omega arith in
-    let hj : j ≡ length b = let z = m.right.count in omega arith in
-    record {
-      rising = m.rising;
-      closed = m.turns ∙ (ap₂ op (ap is_odd hi ∙ x) (ap is_odd hj ∙ y) ∙ e);
-      within = λ k lt. let z = m.below.before k lt in let w = m.bounded in omega arith;
-    }
-
 pub nearest_within : {a b : List ℕ} {i j n : ℕ} → AreEdges a → AreEdges b → IsNearest a i b j n → n ≤ 0x11_0000
 nearest_within {a} {b} {i} {j} {n} x y h = elim h.one [ inl z ↦ let w = x.within i z.0 in let v = z.1 in omega arith | inr z ↦ let w = y.within j z.0 in let v = z.1 in omega arith ]
 
@@ -269,9 +258,6 @@ range_edges es m n is le top = rw is (record {
 pub range_has : (es : List ℕ) (m n c : ℕ) → es ≡ m ∷ (n + 1) ∷ [] → m ≤ n → has es c ≡ in_range (m, n) c
 unfolding has
 range_has es m n c is le = rw is (grind (arith, nat_tests))
-
-pub empty_range : (m n c : ℕ) → n < m → false ≡ in_range (m, n) c
-empty_range m n c h = grind (arith, nat_tests)
 
 pub no_edges : (es : List ℕ) → es ≡ [] → AreEdges es
 unfolding is_odd
@@ -333,9 +319,6 @@ in_ranges-one r c = or-false (in_range r c)
 pub and_over_or : (x y z : Bool) → (x && (y || z)) ≡ ((x && y) || (x && z))
 and_over_or true y z = refl
 and_over_or false y z = refl
-
-pub clamped : (a b m c : ℕ) → m ≡ min b 0x10_FFFF → in_range (a, m) c ≡ (nat_le c 0x10_FFFF && in_range (a, b) c)
-clamped a b m c e = grind (arith, nat_tests)
 
 pub halves : (rs xs ys : List (ℕ × ℕ)) (c : ℕ) (a b : Bool) → rs ≡ xs ++ ys → a ≡ (nat_le c 0x10_FFFF && in_ranges xs c) → b ≡ (nat_le c 0x10_FFFF && in_ranges ys c) → (a || b) ≡ (nat_le c 0x10_FFFF && in_ranges rs c)
 halves rs xs ys c a b is e f = rw (is, e, f, in_ranges-append xs ys c) (sym (and_over_or (nat_le c 0x10_FFFF) (in_ranges xs c) (in_ranges ys c)))

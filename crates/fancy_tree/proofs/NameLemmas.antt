@@ -1,7 +1,7 @@
 -- Names, as they are spelled and as they are read.
 use Rattle.std.proofs.Common.{◌≡◌, ℕ, suc, ◌+◌, ◌<◌, ◌≤◌, ◌==◌, Bool, true, false, List, [], ◌∷◌, ◌++◌, Option, Some, option_map, find, reverse, chars, bytes_eq, encode_utf8_all, IsUtf8, length, take, drop, get_or, refl, sym, ap, ◌∙◌, append_assoc, append-nil, arith, cond, drop-cons, add-one, take-suc}
 use Rattle.std.specs.List.{list_all}
-use Rattle.std.proofs.lemmas.List.{drop_all, take_all, length-take-le}
+use Rattle.std.proofs.lemmas.List.{length-take-le}
 use Rattle.std.proofs.lemmas.Bool.Decides.{nat_tests}
 use Rattle.std.proofs.Math.Seq.{drop-append_seam}
 use Rattle.unicode.proofs.DerivedComputing.{ucd_derived}
@@ -63,15 +63,9 @@ module _ (t : Text) (i d c : ℕ) (below : i < length t) (is : c ≡ get_or t i 
   pub row_ends : is_name_character c ≡ false → name_here t ≡ take i t
   row_ends h = so_far ∙ (ap (λ l. take i t ++ l) (ap name_here here_is ∙ row_stop c (drop (suc i) t) h) ∙ append-nil (take i t))
 
-pub row_is_all : (t : Text) (i : ℕ) → length t ≤ i → name_here t ≡ take i t ++ name_here (drop i t) → name_here t ≡ t
-row_is_all t i h e = e ∙ (ap (λ l. take i t ++ name_here l) (drop_all i t h) ∙ (append-nil (take i t) ∙ take_all i t h))
-
 -- what follows the row that ends at i
 pub past_row : (t : Text) (i : ℕ) → i ≤ length t → name_here t ≡ take i t → past_name t ≡ drop i t
 past_row t i h e = ap (λ n. drop n t) (ap (length {A = ℕ}) e ∙ length-take-le i t h)
-
-pub past_all : (t : Text) → name_here t ≡ t → past_name t ≡ []
-past_all t e = ap (λ n. drop n t) (ap (length {A = ℕ}) e) ∙ drop_all (length t) t (omega arith)
 
 -- a name that is closed, by a character that is none of names, is read
 pub name_is_read : (d : ℕ) (n rest : Text) → is_name_character d ≡ false → is_name n ≡ true → name_here (n ++ d ∷ rest) ≡ n

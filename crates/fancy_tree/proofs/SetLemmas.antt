@@ -1,5 +1,5 @@
 -- Lemmas on results that are sets.
-use Rattle.std.proofs.Common.{if◌then◌else◌, ◌≡◌, ◌⊎◌, ◌↔◌, inl, inr, ℕ, ◌<◌, ◌≤◌, ◌==◌, Bool, true, false, ◌&&◌, ◌||◌, nat_le, List, [], ◌∷◌, length, get_or, min, refl, sym, ap, ap₂, ◌∙◌, arith, Result, Ok, Err, IfOk, subst, leb-true, eqb-true, suc, zero, zero-lt-suc, suc-le-suc, le_of_suc-le-suc, not-suc-le-zero, Contains}
+use Rattle.std.proofs.Common.{if◌then◌else◌, ◌≡◌, ◌⊎◌, ◌↔◌, inl, inr, ℕ, ◌<◌, ◌≤◌, ◌==◌, Bool, true, false, ◌&&◌, ◌||◌, nat_le, List, [], ◌∷◌, length, get_or, refl, sym, ap, ap₂, ◌∙◌, arith, Result, Ok, Err, IfOk, subst, leb-true, eqb-true, suc, zero, zero-lt-suc, suc-le-suc, le_of_suc-le-suc, not-suc-le-zero, Contains}
 use Rattle.ucd_case.specs.FoldOtherRows.{fold_other_rows}
 use Rattle.ucd_case.specs.CaseFolding.{fold_pairs, IsFoldPairs}
 use Rattle.fancy_tree.specs.Widening.{in_pairs, pairs_to, ascii_pairs, SharesFolding}
@@ -14,7 +14,6 @@ use Rattle.fancy_tree.specs.declared.named.Named.{Named}
 use Rattle.fancy_tree.specs.declared.named.Named.TheVariants.{Digit, Word, Space, Hexadecimal, Alphanumeric, Alphabetic, Ascii, Blank, Control, Graphic, Lowercase, Printable, Punctuation, AsciiSpace, Uppercase, AsciiWord, AsciiDigit}
 use Rattle.fancy_tree.specs.Members.{members}
 use Rattle.fancy_tree.specs.declared.set.Set.{Set}
-use Rattle.fancy_tree.proofs.EdgesLemmas.{clamped, in_ranges-one, in_ranges-nil}
 
 pub same_set : {E : Type 0} (r : Result Set E) {f g : ℕ → Bool} → ((c : ℕ) → f c ≡ g c) → IfOk r (λ s. (c : ℕ) → members s c ≡ f c) → IfOk r (λ s. (c : ℕ) → members s c ≡ g c)
 same_set (Ok s) e h = λ c. h c ∙ e c
@@ -26,15 +25,6 @@ le_true a b h = grind (arith, nat_tests)
 and_none : (b : Bool) → false ≡ (b && false)
 and_none true = refl
 and_none false = refl
-
-pub no_ranges : (rs : List (ℕ × ℕ)) (c : ℕ) → length rs ≡ 0 → false ≡ (nat_le c 0x10_FFFF && in_ranges rs c)
-no_ranges [] c h = and_none (nat_le c 0x10_FFFF) ∙ ap (λ b. nat_le c 0x10_FFFF && b) (sym (in_ranges-nil c))
-no_ranges (r ∷ rs) c h = absurd (omega arith)
-
-pub one_range : (rs : List (ℕ × ℕ)) (q : ℕ × ℕ) (m c : ℕ) → length rs ≡ 1 → q ≡ get_or rs 0 q → m ≡ min q.1 0x10_FFFF → in_range (q.0, m) c ≡ (nat_le c 0x10_FFFF && in_ranges rs c)
-one_range [] q m c h e is = absurd (omega arith)
-one_range (r ∷ []) q m c h e is = clamped q.0 q.1 m c is ∙ ap (λ b. nat_le c 0x10_FFFF && b) (ap (λ x. in_range x c) e ∙ sym (in_ranges-one r c))
-one_range (r ∷ s ∷ rs) q m c h e is = absurd (omega arith)
 
 -- ranges that end within Unicode have no member past it
 abbrev pub all_within : List (ℕ × ℕ) → Bool

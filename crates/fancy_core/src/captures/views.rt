@@ -2,25 +2,26 @@
 
 ghost use Rattle.std.specs.Prelude.{◌≡◌, ◌-◌, IfSome, length, option_map};
 ghost use Rattle.std.specs.Iterator.{YieldsFirstBy, at_most};
-ghost use Rattle.fancy_search.specs.Groups.{AreCut, span_at};
+ghost use Rattle.fancy_search.specs.Groups.{AreCut, span_at, spans_held};
 ghost use Rattle.fancy_core.specs.Captures.{spans_in, searched_in, found_by, sub_captures_left};
 
 use crate::captures::Captures;
 use crate::regex::Regex;
 use fancy_input::input::{Haystack, Input};
 use fancy_input::span::Span;
+use fancy_search::groups::GroupSpans;
 
 impl<'r, S: Input> Captures<'r, S> {
-    pub(crate) fn new(regex: &'r Regex, haystack: S, slots: Vec<Option<Span>>) -> Captures<'r, S>
-        requires placed { AreCut (S.text haystack) (S.bytes haystack) slots.items }
+    pub(crate) fn new(regex: &'r Regex, haystack: S, groups: GroupSpans) -> Captures<'r, S>
+        requires placed { AreCut (S.text haystack) (S.bytes haystack) (spans_held groups) }
         ensures haystack { searched_in result ≡ haystack }
-        ensures slots { spans_in result ≡ slots.items }
+        ensures groups { spans_in result ≡ spans_held groups }
         ensures regex { found_by result ≡ regex.now }
     {
         Captures {
             regex,
             haystack,
-            slots,
+            groups,
         }
     }
 
@@ -32,7 +33,7 @@ impl<'r, S: Input> Captures<'r, S> {
     pub fn len(&self) -> usize
         ensures { result ≡ length (spans_in self.now) }
     {
-        self.slots.len()
+        self.groups.len()
     }
 
     /// What the group with this number matched. `None` where it took no part, and for every number past the last
@@ -48,7 +49,7 @@ impl<'r, S: Input> Captures<'r, S> {
         ensures found { option_map S.span result ≡ span_at (spans_in self.now) number }
         ensures within { IfSome result (λ m. S.within m ≡ S.bytes (searched_in self.now)) }
     {
-        match slot_at(&self.slots, number) {
+        match self.groups.at(number) {
             Some(span) => Some(self.haystack.make_match(span.start, span.end)),
             None => None,
         }
@@ -82,23 +83,12 @@ impl<'r, S: Input> Captures<'r, S> {
     }
 }
 
-/// What the group with this number matched, if there is one and it took part.
-fn slot_at(slots: &[Option<Span>], number: usize) -> Option<Span>
-    ensures { result ≡ span_at slots.now number }
-{
-    if number < slots.len() {
-        slots[number]
-    } else {
-        None
-    }
-}
-
 /// Where the group with this number is, in byte offsets. `None` where it took no part, and for every number past the last
 /// group.
 pub fn group_span<S: Haystack>(captures: &Captures<'_, S>, number: usize) -> Option<Span>
     ensures { result ≡ span_at (spans_in captures.now) number }
 {
-    slot_at(&captures.slots, number)
+    captures.groups.at(number)
 }
 
 /// What each group of a match matched, in the order of their numbers; made by [`Captures::iter`].

@@ -1,11 +1,11 @@
 //! Iterators over matches with their groups.
 
-ghost use Rattle.std.specs.Prelude.{◌≡◌, ◌<◌, ◌^◌};
+ghost use Rattle.std.specs.Prelude.{◌≡◌, ◌<◌, ◌^◌, false};
 ghost use Rattle.std.specs.Iterator.{at_most};
 ghost use Rattle.fancy_input.specs.Inputs.{haystack_in, request_in};
 ghost use Rattle.fancy_input.specs.Requests.{whole};
 ghost use Rattle.fancy_core.specs.Regexes.{options_in};
-ghost use Rattle.fancy_core.specs.Searches.{CanSearchInput, last_start_in_whole, last_start_of_input};
+ghost use Rattle.fancy_core.specs.Searches.{CanSearchInput, last_start_in_whole, last_start_of_input, last_start_onward};
 ghost use Rattle.fancy_search.specs.Searching.{Suits};
 
 use crate::captures::Captures;
@@ -14,6 +14,7 @@ use crate::regex::Regex;
 use fancy_input::input::{Haystack, Input};
 use fancy_input::regex_input::RegexInput;
 use fancy_search::groups::groups_found;
+use fancy_search::searcher::Onward;
 use fancy_tree::error::{Error, Result};
 
 /// The matches of an input with their groups, one after another.
@@ -26,8 +27,8 @@ pub struct CaptureMatches<'r, S: Haystack> {
 }
 
 impl Regex {
-    ghost use Rattle.fancy_core.specs.CaptureIterations.{groups_left, groups_in_whole, groups_of_input, matches_in};
-    ghost use Rattle.fancy_core.specs.Iterations.{end_in, items_bound, regex_in, haystack_of, next_request};
+    ghost use Rattle.fancy_core.specs.CaptureIterations.{groups_left, groups_in_whole, groups_of_input, groups_onward, matches_in};
+    ghost use Rattle.fancy_core.specs.Iterations.{end_in, items_bound, regex_in, haystack_of, has_ended, next_request, onward_of};
 
     /// The matches in the haystack with their groups, from its start on.
     ///
@@ -71,11 +72,42 @@ impl Regex {
             matches: self.find_iter_input(input),
         }
     }
+
+    /// The matches that the input asks for with their groups, as a list goes on that came so far, as [`Regex::resume_matches`] gives
+    /// them.
+    ///
+    /// ```text
+    /// let mut matches = regex.captures_iter("aab");    // of (a)*
+    /// matches.next()                                   // Some: 0..2, group 1 1..2
+    /// let (input, onward) = (matches.input(), matches.onward());
+    /// regex.resume_captures(input, onward)             // 3..3, without group 1
+    /// ```
+    pub fn resume_captures<S: Input>(
+        &self,
+        input: RegexInput<S>,
+        onward: Onward,
+    ) -> CaptureMatches<'_, S>
+        requires searched { CanSearchInput S.text S.bytes (options_in self.now) input }
+        ensures matches { groups_left S.text S.bytes result ≡ groups_onward self.now
+            (S.text (haystack_in input)) (S.bytes (haystack_in input)) (request_in input) onward }
+        ensures end { end_in S.text S.bytes (matches_in result) ≡ last_start_onward self.now
+            (S.text (haystack_in input)) (S.bytes (haystack_in input)) (request_in input) onward }
+        ensures countable { items_bound S.text S.bytes (matches_in result) < 2 ^ 64 }
+        ensures regex { regex_in (matches_in result) ≡ self.now }
+        ensures text { haystack_of (matches_in result) ≡ haystack_in input }
+        ensures request { next_request (matches_in result) ≡ request_in input }
+        ensures onward { onward_of (matches_in result) ≡ onward }
+        ensures goes_on { has_ended (matches_in result) ≡ false }
+    {
+        CaptureMatches {
+            matches: self.resume_matches(input, onward),
+        }
+    }
 }
 
 impl<'r, S: Input> CaptureMatches<'r, S> {
-    ghost use Rattle.fancy_core.specs.CaptureIterations.{matches_in};
-    ghost use Rattle.fancy_core.specs.Iterations.{regex_in, haystack_of, next_request};
+    ghost use Rattle.fancy_core.specs.CaptureIterations.{groups_left, groups_onward, matches_in};
+    ghost use Rattle.fancy_core.specs.Iterations.{regex_in, haystack_of, has_ended, next_request, onward_of};
 
     /// The regex that searches.
     pub fn regex(&self) -> &'r Regex
@@ -97,6 +129,17 @@ impl<'r, S: Input> CaptureMatches<'r, S> {
         ensures request { request_in result ≡ next_request (matches_in self.now) }
     {
         self.matches.input()
+    }
+
+    /// How the list goes on from where the next search starts, for [`Regex::resume_captures`], as [`Matches::onward`] has it.
+    pub fn onward(&self) -> Onward
+        ensures onward { result ≡ onward_of (matches_in self.now) }
+        ensures left { has_ended (matches_in self.now) ≡ false → groups_left S.text S.bytes self.now
+            ≡ groups_onward (regex_in (matches_in self.now))
+            (S.text (haystack_of (matches_in self.now))) (S.bytes (haystack_of (matches_in self.now)))
+            (next_request (matches_in self.now)) result }
+    {
+        self.matches.onward()
     }
 }
 
@@ -122,7 +165,7 @@ impl<'r, S: Input> Iterator for CaptureMatches<'r, S> {
             Some(Ok(item)) => {
                 let count = regex.captures_len();
                 match groups_found(regex.allocator(), count, item.found, &matches.cache) {
-                    Ok(slots) => Some(Ok(Captures::new(regex, haystack, slots))),
+                    Ok(groups) => Some(Ok(Captures::new(regex, haystack, groups))),
                     Err(_) => {
                         matches.searcher.refuse();
                         Some(Err(Error::Memory))

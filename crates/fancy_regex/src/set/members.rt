@@ -5,7 +5,7 @@ ghost use Rattle.fancy_bytes.specs.Lacks.{AreKnown};
 ghost use Rattle.fancy_core.specs.declared.regex.Regex.{Regex};
 ghost use Rattle.fancy_input.specs.Inputs.{haystack_in, request_in};
 ghost use Rattle.fancy_input.specs.Requests.{effective_start};
-ghost use Rattle.fancy_regex.specs.Candidates.{IsNextStarter, NoStarterBetween};
+ghost use Rattle.fancy_regex.specs.Candidates.{HoldAllAt, IsNextStarter, NoStarterBetween};
 ghost use Rattle.fancy_regex.specs.SetMembers.{has_answer_at, set_position, NoneBetween, MayStartAt};
 ghost use Rattle.fancy_regex.specs.SetAnswers.{IsAnswerOf, IsFirstAnswer, IsFirstOfSet};
 ghost use Rattle.fancy_regex.specs.Sets.{members_of, asked_of_set, CanSearchAll};
@@ -15,6 +15,7 @@ ghost use Rattle.fancy_regex.specs.Trials.{AreNotedFrom};
 ghost use Rattle.fancy_search.specs.SearchCounts.{IsOutOfSteps};
 
 use crate::set::RegexSet;
+use crate::set::candidates::Groups;
 use crate::set::trials::Trials;
 use fancy_core::captures::Captures;
 use fancy_input::input::{Haystack, Input};
@@ -71,7 +72,7 @@ impl RegexSet {
             if groups.is_empty() {
                 continue;
             }
-            if let Some(answer) = self.answer_before(bytes, 0, input, position, trials) {
+            if let Some(answer) = self.answer_in(groups, 0, input, position, trials) {
                 return Some((position, answer));
             }
         }
@@ -109,20 +110,27 @@ impl RegexSet {
             (haystack_in input.now) position from a.index a.answer) }
     {
         let haystack = input.haystack();
-        self.answer_before(haystack.as_bytes(), from, input, position, trials)
+        let bytes = haystack.as_bytes();
+        let groups = self
+            .candidates
+            .at(bytes, input.request().range_end, position);
+        self.answer_in(groups, from, input, position, trials)
     }
 
-    /// The first answer of the members from an index on at a position of the haystack with these bytes. `None` where none of them
+    /// The first answer at a position of the members from an index on in the groups that may begin there. `None` where none of them
     /// finds anything there.
-    fn answer_before<S: Input>(
+    fn answer_in<S: Input>(
         &self,
-        bytes: &[u8],
+        groups: Groups,
         from: usize,
         input: &RegexInput<S>,
         position: usize,
         trials: &mut Trials,
     ) -> Option<MemberAnswer<'_, S>>
-        requires bytes { bytes.now ≡ S.bytes (haystack_in input.now) }
+        requires groups { HoldAllAt self.now.candidates.width (members_of self.now)
+            (take (request_in input.now).range_end (S.bytes (haystack_in input.now))) position
+            groups }
+        requires small { (k : ℕ) → slice_index (S.bytes (haystack_in input.now)) k < 256 }
         requires searched { CanSearchAll S.text S.bytes self.now input.now }
         requires starts { effective_start (request_in input.now) ≤ position }
         requires ends { position ≤ (request_in input.now).range_end }
@@ -153,9 +161,12 @@ impl RegexSet {
         ensures first { IfSome result (λ a. IsFirstAnswer (asked_of_set self.now S.bytes input.now)
             (haystack_in input.now) position from a.index a.answer) }
     {
+        let haystack = input.haystack();
+        let bytes = haystack.as_bytes();
         let range_end = input.request().range_end;
+        let searched = &bytes[..range_end];
         let mut from = from;
-        'members: while let Some(index) = self.next_starter(bytes, range_end, position, from) {
+        'members: while let Some(index) = self.next_starter(groups, searched, position, from) {
             if let Some(answer) = self.answer_of(index, input, position, trials) {
                 return Some(MemberAnswer { index, answer });
             }
@@ -164,25 +175,23 @@ impl RegexSet {
         None
     }
 
-    /// The first member from an index on that is to be asked at a position of the searched range: it may start with the byte there,
-    /// and the bytes after it do not tell that it finds nothing.
+    /// The first member from an index on that is to be asked at a position of what is searched: it is in one of the groups that may
+    /// begin there, and may start with the byte there.
     pub(crate) fn next_starter(
         &self,
-        haystack: &[u8],
-        range_end: usize,
+        groups: Groups,
+        searched: &[u8],
         position: usize,
         from: usize,
     ) -> Option<usize>
-        requires inside { range_end ≤ length haystack.now }
-        requires ends { position ≤ range_end }
-        ensures bytes { (k : ℕ) → slice_index haystack.now k < 256 }
-        ensures next { MatchOption result
-            (NoStarterBetween (members_of self.now) (take range_end haystack.now) position from
+        requires { HoldAllAt self.now.candidates.width (members_of self.now) searched.now
+            position groups }
+        ensures { MatchOption result
+            (NoStarterBetween (members_of self.now) searched.now position from
             (length (members_of self.now)))
-            (IsNextStarter (members_of self.now) (take range_end haystack.now) position from) }
+            (IsNextStarter (members_of self.now) searched.now position from) }
     {
-        let groups = self.candidates.at(haystack, range_end, position);
-        let next = byte_at(&haystack[..range_end], position);
+        let next = byte_at(searched, position);
         let count = self.members.len();
         let mut from = from;
         'candidates: while let Some(index) = self.candidates.next_member(groups, from, count) {

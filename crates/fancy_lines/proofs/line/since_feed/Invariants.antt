@@ -1,4 +1,4 @@
-use Rattle.std.proofs.Common.{◌≡◌, ℕ, take, ◌≤◌}
+use Rattle.std.proofs.Common.{◌≡◌, take, ◌≤◌}
 use Rattle.fancy_lines.specs.LineColumns.{since_break}
 use Rattle.fancy_lines.proofs.line.since_feed.Given as goal
 

@@ -1,4 +1,4 @@
-use Rattle.std.proofs.Common.{◌≡◌, ℕ, take, drop, ◌++◌}
+use Rattle.std.proofs.Common.{◌≡◌, take, drop, ◌++◌}
 use Rattle.fancy_lines.specs.LineColumns.{until_break}
 use Rattle.fancy_lines.proofs.line.until_feed.Given as goal
 

@@ -11,14 +11,14 @@ use Rattle.fancy_regex.proofs.set.RegexSet.first_answer.Goals as goal
 
 pub loop-position-preserved : goal.loop-position-preserved
 loop-position-preserved g c = record {
-  known = c.answer_before.ensures.known;
-  noted = noted_on (asked_of_set c.args.self.now g.S.Haystack.bytes c.args.input.now) (λ k. 0 ≤ k) c.loop-position.position (c.loop-position.position + 1) c.answer_before.new.trials (omega arith) (if_none _ c.answer_before.result c.in_default.not-Some c.answer_before.ensures.noted);
-  taken = λ easy. omega (arith, c.loop-position.invariant.taken easy, if_none _ c.answer_before.result c.in_default.not-Some c.answer_before.ensures.spent easy);
-  paired = λ before. c.answer_before.ensures.paired (c.loop-position.invariant.paired before);
-  grows = (let more = c.answer_before.ensures.grows in omega (arith, more, c.loop-position.invariant.grows));
-  limit = λ most all before. c.answer_before.ensures.limit most all (c.loop-position.invariant.limit most all before);
-  units = λ easy. c.answer_before.ensures.units easy ∙ c.loop-position.invariant.units easy;
-  passed = passed_more (asked_of_set c.args.self.now g.S.Haystack.bytes c.args.input.now) c.loop-position.position c.answer_before.result c.in_default.not-Some c.answer_before.ensures.none c.loop-position.invariant.passed;
+  known = c.answer_in.ensures.known;
+  noted = noted_on (asked_of_set c.args.self.now g.S.Haystack.bytes c.args.input.now) (λ k. 0 ≤ k) c.loop-position.position (c.loop-position.position + 1) c.answer_in.new.trials (omega arith) (if_none _ c.answer_in.result c.in_default.not-Some c.answer_in.ensures.noted);
+  taken = λ easy. omega (arith, c.loop-position.invariant.taken easy, if_none _ c.answer_in.result c.in_default.not-Some c.answer_in.ensures.spent easy);
+  paired = λ before. c.answer_in.ensures.paired (c.loop-position.invariant.paired before);
+  grows = (let more = c.answer_in.ensures.grows in omega (arith, more, c.loop-position.invariant.grows));
+  limit = λ most all before. c.answer_in.ensures.limit most all (c.loop-position.invariant.limit most all before);
+  units = λ easy. c.answer_in.ensures.units easy ∙ c.loop-position.invariant.units easy;
+  passed = passed_more (asked_of_set c.args.self.now g.S.Haystack.bytes c.args.input.now) c.loop-position.position c.answer_in.result c.in_default.not-Some c.answer_in.ensures.none c.loop-position.invariant.passed;
 }
 
 pub loop-position-preserved-then-is_empty : goal.loop-position-preserved-then-is_empty
@@ -68,13 +68,18 @@ loop-position-init g c = record {
 }
 
 pub returns-in-Some-clause-limit : goal.returns-in-Some-clause-limit
-returns-in-Some-clause-limit g c most all before = c.answer_before.ensures.limit most all (c.loop-position.invariant.limit most all before)
+returns-in-Some-clause-limit g c most all before = c.answer_in.ensures.limit most all (c.loop-position.invariant.limit most all before)
 
 pub returns-in-Some-clause-limited : goal.returns-in-Some-clause-limited
 returns-in-Some-clause-limited g c = c.in-Some.ensures.limited
 
 pub returns-in-Some-clause-units : goal.returns-in-Some-clause-units
-returns-in-Some-clause-units g c easy = c.answer_before.ensures.units easy ∙ c.loop-position.invariant.units easy
+returns-in-Some-clause-units g c easy = c.answer_in.ensures.units easy ∙ c.loop-position.invariant.units easy
 
 pub returns-in-Some-clause-grows : goal.returns-in-Some-clause-grows
-returns-in-Some-clause-grows g c = let more = c.answer_before.ensures.grows in omega (arith, more, c.loop-position.invariant.grows)
+returns-in-Some-clause-grows g c = let more = c.answer_in.ensures.grows in omega (arith, more, c.loop-position.invariant.grows)
+
+pub answer_in-requires-clause-groups : goal.answer_in-requires-clause-groups
+answer_in-requires-clause-groups g c =
+    let s = c.args.self.now in
+    rw (c.request-request.ensures.value, c.as_bytes-bytes.ensures.bytes, c.haystack-haystack.ensures) at (c.at-groups.ensures.held s.members.items s.listed)

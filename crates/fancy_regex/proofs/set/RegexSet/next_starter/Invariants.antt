@@ -1,11 +1,11 @@
-use Rattle.std.proofs.Common.{◌≤◌, ◌-◌, take}
+use Rattle.std.proofs.Common.{◌≤◌, ◌-◌}
 use Rattle.fancy_regex.specs.Candidates.{NoStarterBetween}
 use Rattle.fancy_regex.proofs.set.RegexSet.next_starter.Given as goal
 
 abbrev pub invariant-candidates : goal.invariant-candidates
 invariant-candidates l = record {
   reached : l.fn.from ≤ l.from;
-  none : NoStarterBetween l.self.members.items (take l.range_end l.haystack) l.position l.fn.from l.from;
+  none : NoStarterBetween l.self.members.items l.searched l.position l.fn.from l.from;
 }
 
 abbrev pub decreases-candidates : goal.decreases-candidates

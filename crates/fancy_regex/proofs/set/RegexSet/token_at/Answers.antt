@@ -1,4 +1,4 @@
-use Rattle.std.proofs.Common.{◌<◌, ◌≤◌, true, IfSome, length, take, refl, sym, ap, subst, ◌∙◌, arith, inl, inr}
+use Rattle.std.proofs.Common.{◌≡◌, ◌<◌, ◌≤◌, true, IfSome, length, take, refl, sym, ap, subst, ◌∙◌, arith, inl, inr}
 use Rattle.std.proofs.lemmas.Option.{slice_get_read}
 use Rattle.std.proofs.lemmas.Result.{err_from_is_err_and}
 use Rattle.fancy_code.specs.Queries.{answer_with}
@@ -20,7 +20,7 @@ use Rattle.fancy_regex.proofs.SetCandidateLemmas.{starts_there}
 use Rattle.fancy_regex.proofs.SetLemmas.{item_is_matched}
 use Rattle.fancy_regex.proofs.SetLimitLemmas.{heeds_of_member, passed_on}
 use Rattle.fancy_regex.proofs.TrialLemmas.{reaches, reaches_it, noted_past, tried_below, tried_all}
-use Rattle.fancy_regex.proofs.TokenSearchLemmas.{goes_forth, passed_short, passed_over, taken_longer, all_gone, none_gone, limits_over, limits_more}
+use Rattle.fancy_regex.proofs.TokenSearchLemmas.{goes_forth, passed_short, passed_one, passed_over, taken_longer, all_gone, none_gone, limits_of_one, limits_over, limits_more}
 use Rattle.fancy_regex.proofs.TokenGivenLemmas.{found_as_attempted, found_by_end, item_of_found, limit_kept, out_of_memory_at, token_of_found}
 use Rattle.fancy_regex.proofs.set.RegexSet.token_at.Goals as goal
 use Rattle.fancy_regex.proofs.set.RegexSet.token_at.Goals.{in-Some-found_past+in_ok-captures, in_default-found_past}
@@ -45,12 +45,12 @@ members-preserved g c =
     let q = asked_of_set s g.S.Haystack.bytes c.args.input.now in
     let index = c.in-Some.index in
     let member = c.index-member.result.now in
-    let starter = c.in-Some.ensures.next in
+    let starter = c.in-Some.ensures in
     let inside = starter.inside in
     let is = slice_get_read s.members.items _ index member refl inside c.index-member.ensures in
     let limit = limit_kept q p index member is (rw (c.request-request.ensures.value, c.as_bytes-bytes.ensures.bytes, c.haystack-haystack.ensures) at c.in_ok-found.ensures.allowed) in
     let found = (rw (c.request-request.ensures.value, c.as_bytes-bytes.ensures.bytes, c.haystack-haystack.ensures) at c.in_ok-found.ensures.found) ∙ sym (found_as_attempted q p index member is) in
-    let over = passed_over q haystack p (take c.request-request.result.range_end c.as_bytes-bytes.result.now) (rw (c.request-request.ensures.value, c.as_bytes-bytes.ensures.bytes, c.haystack-haystack.ensures) refl) (rw (c.as_bytes-bytes.ensures.bytes, c.haystack-haystack.ensures) at c.next_starter.ensures.bytes) c.args.input.now.inside (omega (arith, c.requires.ends)) c.members.from index c.members.end c.members.longest starter.reached starter.none c.members.invariant.longest in
+    let over = passed_over q haystack p (take c.request-request.result.range_end c.as_bytes-bytes.result.now) (rw (c.request-request.ensures.value, c.as_bytes-bytes.ensures.bytes, c.haystack-haystack.ensures) refl) (rw (c.as_bytes-bytes.ensures.bytes, c.haystack-haystack.ensures) at c.at-groups.ensures.bytes) c.args.input.now.inside (omega (arith, c.requires.ends)) c.members.from index c.members.end c.members.longest starter.reached starter.none c.members.invariant.longest in
     let forth = goes_forth q haystack p index c.members.end c.members.longest over in
     let heeds = heeds_of_member s.members.items index member c.members.trials c.find.new.self is c.find.ensures.limit in
     let above = noted_past q p c.members.from index c.members.trials c.find.new.self starter.reached c.find.ensures.others c.members.invariant.above in
@@ -93,7 +93,7 @@ members-preserved g c =
 pub find-requires-clause-notes : goal.find-requires-clause-notes
 find-requires-clause-notes g c =
     let s = c.args.self.now in
-    let starter = c.in-Some.ensures.next in
+    let starter = c.in-Some.ensures in
     rw (c.request-request.ensures.value, c.as_bytes-bytes.ensures.bytes, c.haystack-haystack.ensures)
     (c.members.invariant.above c.in-Some.index c.index-member.result.now starter.reached (slice_get_read s.members.items _ c.in-Some.index c.index-member.result.now refl starter.inside c.index-member.ensures))
 
@@ -104,7 +104,7 @@ pub captures_found-requires : goal.captures_found-requires
 captures_found-requires g c =
     let s = c.args.self.now in
     let p = c.args.place in
-    let starter = c.in-Some.ensures.next in
+    let starter = c.in-Some.ensures in
     let member = c.index-member.result.now in
     let here = record c.request-request.result { start = p; anchored = true } in
     let past = c.in-Some-found_past.ensures.past in
@@ -125,7 +125,7 @@ new-requires g c =
     let index = c.in-Some.index in
     let member = c.index-member.result.now in
     let q = asked_of_set s g.S.Haystack.bytes c.args.input.now in
-    let is = slice_get_read s.members.items _ index member refl c.in-Some.ensures.next.inside c.index-member.ensures in
+    let is = slice_get_read s.members.items _ index member refl c.in-Some.ensures.inside c.index-member.ensures in
     let limit = limit_kept q p index member is (rw (c.request-request.ensures.value, c.as_bytes-bytes.ensures.bytes, c.haystack-haystack.ensures) at c.in_ok-found.ensures.allowed) in
     let found = (rw (c.request-request.ensures.value, c.as_bytes-bytes.ensures.bytes, c.haystack-haystack.ensures) at c.in_ok-found.ensures.found) ∙ sym (found_as_attempted q p index member is) in
     let past = c.in-Some-found_past.ensures.past in
@@ -138,7 +138,7 @@ returns-in_err-found-clause-refused g c =
     let p = c.args.place in
     let q = asked_of_set s g.S.Haystack.bytes c.args.input.now in
     let member = c.index-member.result.now in
-    let starter = c.in-Some.ensures.next in
+    let starter = c.in-Some.ensures in
     let is = slice_get_read s.members.items _ c.in-Some.index member refl starter.inside c.index-member.ensures in
     let e = err_from_is_err_and c.from_residual.result c.from_residual.ensures.1 in
     rw (e.1, e.2) (inr (record {
@@ -154,7 +154,7 @@ returns-in_err-captures-clause-refused g c =
     let index = c.in-Some.index in
     let q = asked_of_set s g.S.Haystack.bytes c.args.input.now in
     let member = c.index-member.result.now in
-    let starter = c.in-Some.ensures.next in
+    let starter = c.in-Some.ensures in
     let is = slice_get_read s.members.items _ index member refl starter.inside c.index-member.ensures in
     let found = (rw (c.request-request.ensures.value, c.as_bytes-bytes.ensures.bytes, c.haystack-haystack.ensures) at c.in_ok-found.ensures.found) ∙ sym (found_as_attempted q p index member is) in
     let past = c.in-Some-found_past.ensures.past in
@@ -168,11 +168,11 @@ returns-in-None-clause-refused g c =
     let s = c.args.self.now in
     let p = c.args.place in
     let q = asked_of_set s g.S.Haystack.bytes c.args.input.now in
-    let over = passed_over q (haystack_in c.args.input.now) p (take c.request-request.result.range_end c.as_bytes-bytes.result.now) (rw (c.request-request.ensures.value, c.as_bytes-bytes.ensures.bytes, c.haystack-haystack.ensures) refl) (rw (c.as_bytes-bytes.ensures.bytes, c.haystack-haystack.ensures) at c.next_starter.ensures.bytes) c.args.input.now.inside (omega (arith, c.requires.ends)) c.members.from (length s.members.items) c.members.end c.members.longest c.members.invariant.inside c.in_default.ensures.next c.members.invariant.longest in
+    let over = passed_over q (haystack_in c.args.input.now) p (take c.request-request.result.range_end c.as_bytes-bytes.result.now) (rw (c.request-request.ensures.value, c.as_bytes-bytes.ensures.bytes, c.haystack-haystack.ensures) refl) (rw (c.as_bytes-bytes.ensures.bytes, c.haystack-haystack.ensures) at c.at-groups.ensures.bytes) c.args.input.now.inside (omega (arith, c.requires.ends)) c.members.from (length s.members.items) c.members.end c.members.longest c.members.invariant.inside c.in_default.ensures c.members.invariant.longest in
     inl (record {
       names = refl;
       none = none_gone q (haystack_in c.args.input.now) p c.members.end c.members.longest c.in-None.is over;
-      limits = limits_over q p (take c.request-request.result.range_end c.as_bytes-bytes.result.now) (rw (c.request-request.ensures.value, c.as_bytes-bytes.ensures.bytes, c.haystack-haystack.ensures) refl) c.members.from (length s.members.items) c.in_default.ensures.next c.members.invariant.limits;
+      limits = limits_over q p (take c.request-request.result.range_end c.as_bytes-bytes.result.now) (rw (c.request-request.ensures.value, c.as_bytes-bytes.ensures.bytes, c.haystack-haystack.ensures) refl) c.members.from (length s.members.items) c.in_default.ensures c.members.invariant.limits;
     })
 
 pub returns-in-Some-longest-clause-given : goal.returns-in-Some-longest-clause-given
@@ -180,7 +180,7 @@ returns-in-Some-longest-clause-given g c =
     let s = c.args.self.now in
     let p = c.args.place in
     let q = asked_of_set s g.S.Haystack.bytes c.args.input.now in
-    let over = passed_over q (haystack_in c.args.input.now) p (take c.request-request.result.range_end c.as_bytes-bytes.result.now) (rw (c.request-request.ensures.value, c.as_bytes-bytes.ensures.bytes, c.haystack-haystack.ensures) refl) (rw (c.as_bytes-bytes.ensures.bytes, c.haystack-haystack.ensures) at c.next_starter.ensures.bytes) c.args.input.now.inside (omega (arith, c.requires.ends)) c.members.from (length s.members.items) c.members.end c.members.longest c.members.invariant.inside c.in_default.ensures.next c.members.invariant.longest in
+    let over = passed_over q (haystack_in c.args.input.now) p (take c.request-request.result.range_end c.as_bytes-bytes.result.now) (rw (c.request-request.ensures.value, c.as_bytes-bytes.ensures.bytes, c.haystack-haystack.ensures) refl) (rw (c.as_bytes-bytes.ensures.bytes, c.haystack-haystack.ensures) at c.at-groups.ensures.bytes) c.args.input.now.inside (omega (arith, c.requires.ends)) c.members.from (length s.members.items) c.members.end c.members.longest c.members.invariant.inside c.in_default.ensures c.members.invariant.longest in
     let longest = subst (λ x. IsLongestIfAny q (haystack_in c.args.input.now) p (length s.members.items) c.members.end x) c.in-Some-longest.is over in
     all_gone q (haystack_in c.args.input.now) p c.members.end c.in-Some-longest.token c.requires.ends longest
 
@@ -199,18 +199,18 @@ returns-in-Some-longest-clause-limits g c =
     let s = c.args.self.now in
     let p = c.args.place in
     let q = asked_of_set s g.S.Haystack.bytes c.args.input.now in
-    limits_over q p (take c.request-request.result.range_end c.as_bytes-bytes.result.now) (rw (c.request-request.ensures.value, c.as_bytes-bytes.ensures.bytes, c.haystack-haystack.ensures) refl) c.members.from (length s.members.items) c.in_default.ensures.next c.members.invariant.limits
+    limits_over q p (take c.request-request.result.range_end c.as_bytes-bytes.result.now) (rw (c.request-request.ensures.value, c.as_bytes-bytes.ensures.bytes, c.haystack-haystack.ensures) refl) c.members.from (length s.members.items) c.in_default.ensures c.members.invariant.limits
 
 pub returns-in_err-found-clause-limit : goal.returns-in_err-found-clause-limit
 returns-in_err-found-clause-limit g c most all =
     let s = c.args.self.now in
-    let is = slice_get_read s.members.items _ c.in-Some.index c.index-member.result.now refl c.in-Some.ensures.next.inside c.index-member.ensures in
+    let is = slice_get_read s.members.items _ c.in-Some.index c.index-member.result.now refl c.in-Some.ensures.inside c.index-member.ensures in
     heeds_of_member s.members.items c.in-Some.index c.index-member.result.now c.members.trials c.find.new.self is c.find.ensures.limit most all (c.members.invariant.limit most all)
 
 pub returns-in_err-captures-clause-limit : goal.returns-in_err-captures-clause-limit
 returns-in_err-captures-clause-limit g c most all =
     let s = c.args.self.now in
-    let is = slice_get_read s.members.items _ c.in-Some.index c.index-member.result.now refl c.in-Some.ensures.next.inside c.index-member.ensures in
+    let is = slice_get_read s.members.items _ c.in-Some.index c.index-member.result.now refl c.in-Some.ensures.inside c.index-member.ensures in
     heeds_of_member s.members.items c.in-Some.index c.index-member.result.now c.members.trials c.find.new.self is c.find.ensures.limit most all (c.members.invariant.limit most all)
 
 pub returns-in_err-found-clause-limited : goal.returns-in_err-found-clause-limited
@@ -219,7 +219,7 @@ returns-in_err-found-clause-limited g c out =
     record {
       index = c.in-Some.index;
       member = c.index-member.result.now;
-      is = slice_get_read s.members.items _ c.in-Some.index c.index-member.result.now refl c.in-Some.ensures.next.inside c.index-member.ensures;
+      is = slice_get_read s.members.items _ c.in-Some.index c.index-member.result.now refl c.in-Some.ensures.inside c.index-member.ensures;
       spent = c.find.ensures.limited (passed_on c.from_residual.result _ c.from_residual.ensures.1 out c.find.result c.in_err-found.was);
     }
 
@@ -228,3 +228,32 @@ returns-in_err-found-clause-known g c = rw (c.as_bytes-bytes.ensures.bytes, c.ha
 
 pub returns-in_err-captures-clause-known : goal.returns-in_err-captures-clause-known
 returns-in_err-captures-clause-known g c = rw (c.as_bytes-bytes.ensures.bytes, c.haystack-haystack.ensures) at c.find.ensures.known
+
+pub next_starter-requires : goal.next_starter-requires
+next_starter-requires g c = c.at-groups.ensures.held c.args.self.now.members.items c.args.self.now.listed
+
+pub members-preserved-then-ends_no_later : goal.members-preserved-then-ends_no_later
+members-preserved-then-ends_no_later g c =
+    let s = c.args.self.now in
+    let p = c.args.place in
+    let haystack = haystack_in c.args.input.now in
+    let q = asked_of_set s g.S.Haystack.bytes c.args.input.now in
+    let index = c.in-Some.index in
+    let member = c.index-member.result.now in
+    let starter = c.in-Some.ensures in
+    let inside = starter.inside in
+    let is = slice_get_read s.members.items _ index member refl inside c.index-member.ensures in
+    let searched = take c.request-request.result.range_end c.as_bytes-bytes.result.now in
+    let there : searched ≡ take q.request.range_end q.haystack = rw (c.request-request.ensures.value, c.as_bytes-bytes.ensures.bytes, c.haystack-haystack.ensures) refl in
+    let over = passed_over q haystack p searched there (rw (c.as_bytes-bytes.ensures.bytes, c.haystack-haystack.ensures) at c.at-groups.ensures.bytes) c.args.input.now.inside (omega (arith, c.requires.ends)) c.members.from index c.members.end c.members.longest starter.reached starter.none c.members.invariant.longest in
+    let forth = goes_forth q haystack p index c.members.end c.members.longest over in
+    let one = c.if-ends_no_later.ensures.one refl in
+    record {
+      limit = c.members.invariant.limit;
+      known = c.members.invariant.known;
+      below = λ k r lt at. tried_all q p c.members.from c.members.end c.members.trials forth c.members.invariant.below c.members.invariant.above k r (omega arith) at;
+      above = λ k r le at. (let reached = starter.reached in c.members.invariant.above k r (omega (arith, le, reached)) at);
+      inside = omega (arith, inside);
+      longest = passed_one q haystack p searched there index c.members.end c.members.longest member is one c.args.input.now.inside c.requires.ends (c.if-ends_no_later.ensures.low refl) (c.if-ends_no_later.ensures.past refl) over;
+      limits = limits_of_one q p index member is one (limits_over q p searched there c.members.from index starter.none c.members.invariant.limits);
+    }

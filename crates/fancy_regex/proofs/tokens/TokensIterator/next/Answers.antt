@@ -3,6 +3,9 @@ use Rattle.fancy_regex.specs.Sets.{asked_of_set}
 use Rattle.fancy_regex.proofs.TokenGivenLemmas.{goes_on_with, end_is}
 use Rattle.fancy_regex.proofs.tokens.TokensIterator.next.Goals as goal
 
+pub token_at-requires-clause-noted : goal.token_at-requires-clause-noted
+token_at-requires-clause-noted g c = c.args.self.now.noted c.if-self.false
+
 pub returns-in-Ok-clause-steps : goal.returns-in-Ok-clause-steps
 returns-in-Ok-clause-steps g c =
     let s = c.args.self.now in

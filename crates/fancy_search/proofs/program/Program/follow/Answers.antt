@@ -38,12 +38,12 @@ pub returns-in-Err-clause-idle : goal.returns-in-Err-clause-idle
 returns-in-Err-clause-idle c on none = nowhere c.args.self.now c.args.haystack.now c.args.request on _ _ (λ k. omega (arith, c.type_inv.haystack k)) none c.find.ensures.idle
 
 pub returns-in-Ok-clause-kept : goal.returns-in-Ok-clause-kept
-returns-in-Ok-clause-kept c = (remembers c.find.new.cells c.args.self.now.code c.find.ensures.all, c.find.ensures.kept)
+returns-in-Ok-clause-kept c = rw c.kept_after.ensures.cells (remembers c.find.new.cells c.args.self.now.code c.find.ensures.all, c.find.ensures.kept)
 
 pub returns-in-Err-clause-kept : goal.returns-in-Err-clause-kept
 returns-in-Err-clause-kept c = (remembers c.find.new.cells c.args.self.now.code c.find.ensures.all, c.find.ensures.kept)
 
 pub find-requires-clause-all : goal.find-requires-clause-all
 find-requires-clause-all c =
-    recalls c.ready-read.new.cells c.args.self.now.code
-    (c.ready-read.ensures.all c.args.self.now.code (λ e. (c.requires.kept e).0))
+    recalls c.ready.new.self.cells c.args.self.now.code
+    (c.ready.ensures.all c.args.self.now.code (λ e. (c.requires.kept e).0))

@@ -24,7 +24,7 @@ follow-found-requires-clause-allowed c = rw c.anchored_at-from_position.ensures 
 pub follow-found-requires-clause-kept : goal.follow-found-requires-clause-kept
 follow-found-requires-clause-kept c = λ steps.
     rw c.deref_mut.ensures.value
-    (steps_taken c.args.self.now c.args.notes.now.cells c.in-Ok.cells c.in-Ok.ensures.given (c.requires.notes.1 (rw c.take_cells.ensures.others at steps)))
+    (steps_taken c.args.self.now c.args.notes.now.steps c.in-Ok.steps c.in-Ok.ensures.given (c.requires.notes.1 (rw c.take_steps.ensures.others at steps)))
 
 pub returns-clause-answer : goal.returns-clause-answer
 returns-clause-answer c =
@@ -34,7 +34,7 @@ returns-clause-answer c =
 
 pub returns-clause-notes : goal.returns-clause-notes
 returns-clause-notes c =
-    let notes : AttemptNotes = record { kept = c.follow-found.new.kept; notes = c.take_cells.new.self.notes; cells = Some (with_value c.in-Ok.cells c.follow-found.new.cells) } in
+    let notes : AttemptNotes = record { kept = c.follow-found.new.kept; notes = c.take_steps.new.self.notes; steps = Some (with_value c.in-Ok.steps c.follow-found.new.steps) } in
     let kept = λ (place : ℕ). noted_steps c.args.self.now c.args.asked.now.haystack.now c.args.asked.now.request place notes c.follow-found.ensures.left (refl, c.follow-found.ensures.kept) in
     record {
       after = if_ok _ (λ (m : Option Found). KeepsNotes c.args.self.now c.args.asked.now.haystack.now c.args.asked.now.request (kept_from m c.args.position) notes) (λ m _. kept (kept_from m c.args.position)) c.follow-found.result c.follow-found.ensures.answer;

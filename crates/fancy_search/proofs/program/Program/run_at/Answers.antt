@@ -26,8 +26,8 @@ returns-clause-notes c =
     let here = if_ok_both _ _ (λ (m : Option Found). IfSome m (λ f. f.start ≡ c.args.position)) (λ m e h. starts_here q c.args.position (cached_groups c.run-found.new.cache) m e h) c.run-found.result answer c.run-found.ensures.here in
     record {
       after = rw c.swap_notes-2.ensures.taken
-          (if_ok_both _ _ (λ (m : Option Found). KeepsNotes c.args.self.now c.args.asked.now.haystack.now c.args.asked.now.request (kept_from m c.args.position) (record { kept = Runner c.run-found.new.kept; notes = c.run-found.new.cache.runner.notes; cells = c.args.notes.now.cells }))
-          (λ m h k. noted_after c.args.self.now c.args.asked.now.haystack.now c.args.asked.now.request c.args.position c.run-found.new.kept (record { kept = Runner c.run-found.new.kept; notes = c.run-found.new.cache.runner.notes; cells = c.args.notes.now.cells }) m refl c.requires.tries.from c.requires.tries.to h k) c.run-found.result here (rw c.anchored_at-from_position.ensures at c.run-found.ensures.kept));
+          (if_ok_both _ _ (λ (m : Option Found). KeepsNotes c.args.self.now c.args.asked.now.haystack.now c.args.asked.now.request (kept_from m c.args.position) (record { kept = Runner c.run-found.new.kept; notes = c.run-found.new.cache.runner.notes; steps = c.args.notes.now.steps }))
+          (λ m h k. noted_after c.args.self.now c.args.asked.now.haystack.now c.args.asked.now.request c.args.position c.run-found.new.kept (record { kept = Runner c.run-found.new.kept; notes = c.run-found.new.cache.runner.notes; steps = c.args.notes.now.steps }) m refl c.requires.tries.from c.requires.tries.to h k) c.run-found.result here (rw c.anchored_at-from_position.ensures at c.run-found.ensures.kept));
       dropped = if_err _ _ (λ e none. rw none (tt, λ steps. cc)) c.run-found.result c.run-found.ensures.dropped;
     }
 

@@ -70,4 +70,4 @@ returns-in_err-found-clause-fresh c none =
 
 pub returns-then-allows_all_steps-clause-kept : goal.returns-then-allows_all_steps-clause-kept
 returns-then-allows_all_steps-clause-kept c =
-    if_ok _ _ (λ m _. found_steps c.args.self.now c.args.asked.now.haystack.now (record c.args.cache.now { served = Automaton c.args.self.now.code.groups; cells = c.follow.new.cells }) c.args.asked.now.request c.follow.new.kept m c.follow.ensures.left c.follow.ensures.kept) c.follow.result c.follow.ensures.answer
+    if_ok _ _ (λ m _. found_steps c.args.self.now c.args.asked.now.haystack.now (record c.args.cache.now { served = Automaton c.args.self.now.code.groups; steps = c.follow.new.steps }) c.args.asked.now.request c.follow.new.kept m c.follow.ensures.left c.follow.ensures.kept) c.follow.result c.follow.ensures.answer

@@ -6,7 +6,7 @@ use Rattle.fancy_regex.specs.Sets.{asked_of_set}
 use Rattle.fancy_regex.specs.SetCounts.{IsPaired, TakesSteps, steps_left_in}
 use Rattle.fancy_regex.specs.SetLimits.{CountNoUnits, HeedLimits, KeepsWork}
 use Rattle.fancy_regex.specs.Trials.{AreNotedFrom}
-use Rattle.fancy_regex.proofs.set.RegexSet.answer_before.Given as goal
+use Rattle.fancy_regex.proofs.set.RegexSet.answer_in.Given as goal
 
 abbrev pub invariant-members : goal.invariant-members
 invariant-members g l = record {
