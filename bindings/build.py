@@ -32,7 +32,7 @@ fn main(rt: HostRuntime) {
     let ends = [0usize; 1];
     let mut fault = plain::Fault::memory();
     let mut request = plain::Request { start: 0, end: 0, flags: 0, standing: 0 };
-    let how = texts::Replacing { limit: 0, literal: 0 };
+    let how = texts::Replacing { replacement: b"", limit: 0, literal: 0 };
     let mut options = reading::by_default();
     let mut regex = handle::Handle::none(alloc);
     let mut other = handle::Handle::none(alloc);
@@ -55,7 +55,7 @@ CALLS = {
     "&[u8]": 'b""',
     "&mut [u8]": "&mut bytes",
     "&mut usize": "&mut count",
-    "&Replacing": "&how",
+    "&Replacing<'_>": "&how",
     "usize": "0",
     "u32": "0",
     "Global": "alloc",

@@ -258,20 +258,21 @@ static void lists(void) {
 
 static void texts(void) {
     fancy_regex_handle regex = {0};
-    fancy_regex_replacing how = {0, 0};
+    fancy_regex_replacing how = {BYTES("$2.$1"), 0, 0};
     uint8_t buffer[64];
     fancy_regex_span pieces[4];
     size_t wanted = 0;
     if (make(&regex, "(\\d+)-(\\d+)")) {
-        IS("replace", fancy_regex_replace(&regex, BYTES("on 1-2, 3-4"), BYTES("$2.$1"), &how, buffer, 64, &wanted), FANCY_REGEX_DONE,
+        IS("replace", fancy_regex_replace(&regex, BYTES("on 1-2, 3-4"), &how, buffer, 64, &wanted), FANCY_REGEX_DONE,
            says(buffer, wanted, "on 2.1, 4.3"));
-        IS("a short buffer", fancy_regex_replace(&regex, BYTES("1-2"), BYTES("$2.$1"), &how, buffer, 2, &wanted),
+        IS("a short buffer", fancy_regex_replace(&regex, BYTES("1-2"), &how, buffer, 2, &wanted),
            FANCY_REGEX_TOO_SHORT, wanted == 3);
-        IS("nothing to replace", fancy_regex_replace(&regex, BYTES("12"), BYTES("$2.$1"), &how, buffer, 64, &wanted), FANCY_REGEX_NONE,
+        IS("nothing to replace", fancy_regex_replace(&regex, BYTES("12"), &how, buffer, 64, &wanted), FANCY_REGEX_NONE,
            wanted == 0);
+        how.replacement_len = 2;
         how.limit = 1;
         how.literal = 1;
-        IS("the first one", fancy_regex_replace(&regex, BYTES("1-2 3-4"), BYTES("$2"), &how, buffer, 64, &wanted), FANCY_REGEX_DONE,
+        IS("the first one", fancy_regex_replace(&regex, BYTES("1-2 3-4"), &how, buffer, 64, &wanted), FANCY_REGEX_DONE,
            says(buffer, wanted, "$2 3-4"));
     }
     if (make(&regex, ",")) {

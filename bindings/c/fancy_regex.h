@@ -145,6 +145,8 @@ enum fancy_regex_fault_kind {
 
 /* How matches are replaced. */
 typedef struct fancy_regex_replacing {
+    const uint8_t *replacement; /* what stands for each match, and its length */
+    size_t replacement_len;
     size_t limit;     /* how many at most; 0: all */
     uint32_t literal; /* 1: by the replacement as it is; 0: it is a template, with $1, ${name} and $$ */
 } fancy_regex_replacing;
@@ -207,7 +209,8 @@ uint32_t fancy_regex_captures(fancy_regex_handle *regex, const uint8_t *haystack
  * at the end of the match before is passed over. ---- */
 
 /* Writes the next matches of a list, at most `count`, and tells how many. DONE: all of `count` are written, there may be more, and
- * `request` says where the next call goes on, with the same haystack. NONE: the list has ended. A refusal ends it too. */
+ * `request` says where the next call goes on, with the same regex and haystack. NONE: the list has ended. NO_MEMORY and the three limits
+ * end it too. In each of these cases the matches before are written. NOT_TEXT and NO_PLACE leave `request` as it was. */
 uint32_t fancy_regex_find_all(fancy_regex_handle *regex, const uint8_t *haystack, size_t haystack_len,
                               fancy_regex_request *request, fancy_regex_span *spans, size_t count, size_t *written);
 
@@ -224,7 +227,7 @@ uint32_t fancy_regex_matches_new(fancy_regex_handle *regex, const uint8_t *hayst
                                  const fancy_regex_request *request, uint32_t has_groups, fancy_regex_handle *list);
 
 /* Writes `count` groups of the next match, as fancy_regex_captures does, or group 0 alone and others as absent. NONE: the list has
- * ended. After NO_MEMORY the list may be asked again; another refusal ends it. */
+ * ended. After NO_MEMORY the list may be asked again; another refusal ends it. For all but DONE nothing is written. */
 uint32_t fancy_regex_next(fancy_regex_handle *list, fancy_regex_span *groups, size_t count);
 
 /* Begins a list of tokens. */
@@ -240,9 +243,8 @@ uint32_t fancy_regex_next_token(fancy_regex_handle *list, fancy_regex_member *to
  * length is 0, but for NO_HANDLE, for which nothing is told. ---- */
 
 /* Writes the text with its matches replaced. NONE: nothing matches, nothing is written, and the length is 0. */
-uint32_t fancy_regex_replace(fancy_regex_handle *regex, const uint8_t *text, size_t text_len, const uint8_t *replacement,
-                             size_t replacement_len, const fancy_regex_replacing *how, uint8_t *buffer, size_t buffer_len,
-                             size_t *wanted);
+uint32_t fancy_regex_replace(fancy_regex_handle *regex, const uint8_t *text, size_t text_len, const fancy_regex_replacing *how,
+                             uint8_t *buffer, size_t buffer_len, size_t *wanted);
 
 /* Writes where the pieces between the matches stand, at most `limit` pieces, whose last one is the rest of the text; (size_t)-1
  * for all pieces. Tells how many there are. Where there is room for fewer, the first ones are written. */

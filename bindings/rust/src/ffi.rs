@@ -1,5 +1,6 @@
 //! `fancy_regex.h` as Rust reads it. Each function is unsafe to call as the header says.
 use std::ffi::c_void;
+use std::marker::PhantomData;
 
 /// Owns a regex or a set, or nothing.
 #[repr(C)]
@@ -21,9 +22,25 @@ pub const ABSENT: Span = Span { start: usize::MAX, end: usize::MAX };
 
 /// How matches are replaced.
 #[repr(C)]
-pub struct Replacing {
-    pub limit: usize,
-    pub literal: u32,
+pub struct Replacing<'r> {
+    replacement: *const u8,
+    replacement_len: usize,
+    limit: usize,
+    literal: u32,
+    lent: PhantomData<&'r str>,
+}
+
+impl<'r> Replacing<'r> {
+    /// By this text, `limit` matches at most, or all for 0. A text that is not `literal` is a template.
+    pub fn new(replacement: &'r str, limit: usize, literal: bool) -> Self {
+        Replacing {
+            replacement: replacement.as_ptr(),
+            replacement_len: replacement.len(),
+            limit,
+            literal: u32::from(literal),
+            lent: PhantomData,
+        }
+    }
 }
 
 /// Where and how a haystack is searched.
@@ -177,9 +194,7 @@ extern "C" {
         regex: *mut RawHandle,
         text: *const u8,
         text_len: usize,
-        replacement: *const u8,
-        replacement_len: usize,
-        how: *const Replacing,
+        how: *const Replacing<'_>,
         buffer: *mut u8,
         buffer_len: usize,
         wanted: *mut usize,

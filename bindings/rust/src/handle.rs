@@ -234,8 +234,7 @@ impl Handle {
     pub fn replace(
         &mut self,
         text: &str,
-        replacement: &str,
-        how: &ffi::Replacing,
+        how: &ffi::Replacing<'_>,
         buffer: &mut [u8],
         wanted: &mut usize,
     ) -> u32 {
@@ -245,8 +244,6 @@ impl Handle {
                 &mut self.raw,
                 text.as_ptr(),
                 text.len(),
-                replacement.as_ptr(),
-                replacement.len(),
                 how,
                 buffer.as_mut_ptr(),
                 buffer.len(),

@@ -318,15 +318,12 @@ impl Regex {
         limit: usize,
         literal: bool,
     ) -> Result<Cow<'t, str>> {
-        let how = ffi::Replacing {
-            limit,
-            literal: u32::from(literal),
-        };
+        let how = ffi::Replacing::new(replacement, limit, literal);
         let mut buffer = vec![0; text.len() + text.len() / 4 + 64];
         loop {
             let mut wanted = 0;
-            let answer = self
-                .with(|handle| handle.replace(text, replacement, &how, &mut buffer, &mut wanted));
+            let answer =
+                self.with(|handle| handle.replace(text, &how, &mut buffer, &mut wanted));
             match answer {
                 ffi::TOO_SHORT => buffer.resize(wanted, 0),
                 ffi::NO_MEMORY => out_of_memory(),

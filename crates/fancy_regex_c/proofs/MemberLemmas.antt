@@ -1,5 +1,5 @@
 -- The matches of the members of a set, one after another.
-use Rattle.std.proofs.Common.{◌≡◌, ◌∙◌, ◌<◌, ◌≤◌, ◌+◌, ◌-◌, ℕ, zero, suc, true, List, [], ◌∷◌, ◌++◌, Option, Some, filter, length, refl, sym, ap, subst, arith, append_assoc, append-nil}
+use Rattle.std.proofs.Common.{◌≡◌, ◌∙◌, ◌<◌, ◌≤◌, ◌+◌, ◌-◌, ◌^◌, ℕ, suc, true, List, [], ◌∷◌, ◌++◌, Option, Some, filter, length, refl, sym, ap, subst, arith, append_assoc, append-nil}
 use Rattle.std.proofs.Math.Logic.{∥∥₁_elim}
 use Rattle.std.proofs.Props.{props}
 use Rattle.std.proofs.lemmas.List.{length-append}
@@ -12,11 +12,11 @@ use Rattle.fancy_regex.specs.declared.RegexSetMatchesAt.{RegexSetMatchesAt}
 use Rattle.fancy_regex.specs.declared.Request.{Request as Asked}
 use Rattle.fancy_regex.specs.declared.Span.{Span as Found}
 use Rattle.fancy_regex.specs.Groups.{span_at}
-use Rattle.fancy_regex.specs.SetMatches.{set_of, haystack_of_set, request_of_set, question_of}
+use Rattle.fancy_regex.specs.SetMatches.{set_of, haystack_of_set, request_of_set, position_of, question_of}
 use Rattle.fancy_regex.specs.SetMembers.{SetQuery, has_answer_at, members_at, members_at_from, NoneBetween, IsMemberItem, RefusesMember}
 use Rattle.fancy_regex.specs.Sets.{members_of}
 use Rattle.fancy_regex.specs.Spans.{from_to}
-use Rattle.fancy_regex.proofs.SetLemmas.{member_finds}
+use Rattle.fancy_regex.proofs.SetLemmas.{member_finds, few_members}
 use Rattle.fancy_regex.proofs.SetListLemmas.{kept_from, zip_push}
 use Rattle.fancy_regex_c.specs.declared.handed.Handed.{Handed}
 use Rattle.fancy_regex_c.specs.declared.plain.Member.{Member}
@@ -42,11 +42,12 @@ asks_same_of_set s t e f d = same (set_of t) (set_of s) (haystack_of_set t) (hay
 pub member_is_within : (q : SetQuery) (p k : ℕ) (r : Regex) (spans : List (Option Found)) → IsMemberItem q p k r spans → k < length q.members
 member_is_within q p k r spans item = ∥∥₁_elim item.is (hlevel props) (λ is. slice_get_within q.members k r is)
 
-pub item_is_within : (q s : SetQuery) (at k n : ℕ) (r : Regex) (spans : List (Option Found)) → s ≡ q → n ≡ length q.members → IsMemberItem s at k r spans → k < n
-item_is_within q s at k n r spans e f item =
-    let within = member_is_within s at k r spans item in
-    let same : length s.members ≡ length q.members = ap (λ (x : SetQuery). length x.members) e in
-    omega (arith, within, same, f)
+-- so its index is one of few
+pub member_within : {g : _} (s : RegexSetMatchesAt Handed g) (k : ℕ) (r : Regex) (spans : List (Option Found)) → IsMemberItem (question_of handed_bytes s) (position_of s) k r spans → k < 2 ^ 63
+member_within s k r spans item =
+    let within = member_is_within (question_of handed_bytes s) (position_of s) k r spans item in
+    let few = few_members (set_of s) in
+    omega (arith, within, few)
 
 -- what was asked, and where, are the same
 same_item : (q s : SetQuery) (p at k : ℕ) (r : Regex) (spans : List (Option Found)) → s ≡ q → at ≡ p → IsMemberItem s at k r spans → IsMemberItem q p k r spans

@@ -1,5 +1,5 @@
 -- What a replacement by a template or by a text as it is makes of a text.
-use Rattle.std.proofs.Common.{◌≡◌, ◌∙◌, ℕ, List, [], ◌∷◌, Option, None, Some, Result, Ok, Err, IfOk, IfErr, map, refl, sym, ap, inl, inr}
+use Rattle.std.proofs.Common.{◌≡◌, ◌∙◌, ℕ, List, [], ◌∷◌, Option, None, Some, Result, Ok, Err, IfOk, IfErr, map, refl, ap, inl, inr}
 use Rattle.std.specs.Cow.{cow_str_bytes}
 use Rattle.std.specs.Prelude.{MatchOption}
 use Rattle.std.specs.declared.borrow.CowStr.{CowStr}

@@ -1,5 +1,6 @@
 -- What a request that crosses asks of a search.
 use Rattle.std.specs.Prelude.{◌≡◌, ◌≤◌, ℕ, Bool, true, List, length, not, nat_eq, bit_and, All, IsUtf8}
+use Rattle.fancy_regex.specs.declared.Onward.{Onward}
 use Rattle.fancy_regex.specs.declared.Regex.{Regex}
 use Rattle.fancy_regex.specs.declared.RegexSet.{RegexSet}
 use Rattle.fancy_regex.specs.declared.Request.{Request as Asked}
@@ -24,6 +25,10 @@ asked r = record {
   end_text = not (has_flag r.flags 8);
   continues = not (has_flag r.flags 16);
 }
+
+-- how a list goes on that stands so: AFTER_MATCH is 1, and AFTER_EMPTY is 2
+abbrev pub onward_from : ℕ → Onward
+onward_from standing = record { continues = not (has_flag standing 2); skips_empty = has_flag standing 1 }
 
 -- what it asks of the members of a set
 abbrev pub asked_of_set : RegexSet → List ℕ → Request → SetQuery

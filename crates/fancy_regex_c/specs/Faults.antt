@@ -1,5 +1,5 @@
 -- The numbers of a fault: those of the error of the library.
-use Rattle.std.specs.Prelude.{◌≡◌, ◌==◌, ◌≤◌, ℕ, List, Err, IsUtf8, if◌then◌else◌}
+use Rattle.std.specs.Prelude.{◌≡◌, ◌==◌, ℕ, List, Err, IsUtf8, if◌then◌else◌}
 use Rattle.fancy_regex.specs.declared.CompileError.{CompileError as Compiling}
 use Rattle.fancy_regex.specs.declared.CompileError.TheVariants.{InvalidBackref, InvalidGroupNameBackref, NamedBackrefOnly, LookBehindNotConst, PatternCanNeverMatch, PatternTooComplex}
 use Rattle.fancy_regex.specs.declared.Error.{Error}

@@ -12,8 +12,12 @@ pub mod Missing
 pub mod Texts
 pub mod Replacements
 pub mod Splitting
-pub mod UnderWay
+pub mod Lists
 pub mod SetReading
 pub mod SetFinding
 pub mod TokenGiving
+pub mod UnderWay
+pub mod Courses
+pub mod NextTokens
+pub mod NextMatches
 pub mod Handles

@@ -1,5 +1,5 @@
 -- The name that a pattern refers to and that no group has.
-use Rattle.std.specs.Prelude.{◌≡◌, ℕ, List, [], Result, Ok, Err, IsUtf8, string_bytes}
+use Rattle.std.specs.Prelude.{◌≡◌, ℕ, List, Result, Ok, Err, IsUtf8, string_bytes}
 use Rattle.fancy_regex.specs.declared.CompileError.{CompileError as Compiling}
 use Rattle.fancy_regex.specs.declared.CompileError.TheVariants.{InvalidBackref, InvalidGroupNameBackref, NamedBackrefOnly, LookBehindNotConst, PatternCanNeverMatch, PatternTooComplex}
 use Rattle.fancy_regex.specs.declared.Error.{Error}

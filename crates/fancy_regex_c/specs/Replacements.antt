@@ -20,12 +20,12 @@ abbrev pub given_by : List ℕ → Seen → List ℕ
 given_by template seen = unless_fixed (fixed_of template) (expansion_of template seen)
 
 -- the text with its first matches replaced, as many as the limit allows: by the template, or by the replacement as it is
-abbrev pub text_with : Regex → List ℕ → List ℕ → Replacing → List ℕ
-text_with regex text replacement how =
+abbrev pub text_with : Regex → List ℕ → Replacing → List ℕ
+text_with regex text how =
     let items = first_matches regex text how.limit in
     if nat_eq how.literal 0
-    then replaced text items (map (λ i. given_by replacement (seen_of regex text i)) items)
-    else text_with_each text items replacement
+    then replaced text items (map (λ i. given_by how.replacement.now (seen_of regex text i)) items)
+    else text_with_each text items how.replacement.now
 
 -- the text and the replacement are UTF-8
 pub record AreTexts (text replacement : List ℕ) : Type 0 where
@@ -38,13 +38,13 @@ IsWholePlace regex text = CanSearch (options_in regex) true text (whole text)
 
 -- `replace`: the buffer gets the text with its matches replaced; NONE where nothing matches. Both come only where the searches for the
 -- matches keep within their limits of returns. For NONE and all refusals nothing is written and 0 is told.
-pub data TellsReplaced (regex : Regex) (text replacement : List ℕ) (how : Replacing) (old new : List ℕ) (wanted answer : ℕ) : Type 0 where
-  is_replaced : AreTexts text replacement → IsWholePlace regex text → AllowsReplacing regex text how.limit → (all_matches regex text ≡ [] → ⊥)
-      → Puts (text_with regex text replacement how) old new wanted answer → TellsReplaced regex text replacement how old new wanted answer
-  is_none : answer ≡ 1 → AreTexts text replacement → IsWholePlace regex text → AllowsReplacing regex text how.limit → all_matches regex text ≡ []
-      → PutsNothing old new wanted → TellsReplaced regex text replacement how old new wanted answer
-  is_not_text : answer ≡ 2 → (AreTexts text replacement → ⊥) → PutsNothing old new wanted → TellsReplaced regex text replacement how old new wanted answer
-  is_no_place : answer ≡ 3 → AreTexts text replacement → (IsWholePlace regex text → ⊥) → PutsNothing old new wanted
-      → TellsReplaced regex text replacement how old new wanted answer
-  is_refused : AreTexts text replacement → IsWholePlace regex text → IsAnswerFor (IsRefusedAfterSome regex text how.limit) answer
-      → PutsNothing old new wanted → TellsReplaced regex text replacement how old new wanted answer
+pub data TellsReplaced (regex : Regex) (text : List ℕ) (how : Replacing) (old new : List ℕ) (wanted answer : ℕ) : Type 0 where
+  is_replaced : AreTexts text how.replacement.now → IsWholePlace regex text → AllowsReplacing regex text how.limit → (all_matches regex text ≡ [] → ⊥)
+      → Puts (text_with regex text how) old new wanted answer → TellsReplaced regex text how old new wanted answer
+  is_none : answer ≡ 1 → AreTexts text how.replacement.now → IsWholePlace regex text → AllowsReplacing regex text how.limit → all_matches regex text ≡ []
+      → PutsNothing old new wanted → TellsReplaced regex text how old new wanted answer
+  is_not_text : answer ≡ 2 → (AreTexts text how.replacement.now → ⊥) → PutsNothing old new wanted → TellsReplaced regex text how old new wanted answer
+  is_no_place : answer ≡ 3 → AreTexts text how.replacement.now → (IsWholePlace regex text → ⊥) → PutsNothing old new wanted
+      → TellsReplaced regex text how old new wanted answer
+  is_refused : AreTexts text how.replacement.now → IsWholePlace regex text → IsAnswerFor (IsRefusedAfterSome regex text how.limit) answer
+      → PutsNothing old new wanted → TellsReplaced regex text how old new wanted answer

@@ -1,16 +1,12 @@
 -- Lists under way, as the exports that begin them make them.
 use Rattle.std.specs.Prelude.{◌≡◌, ℕ, Bool, true, false, List, MatchBool, string_bytes, vec_items}
-use Rattle.fancy_regex.specs.declared.Regex.{Regex}
-use Rattle.fancy_regex.specs.declared.RegexSet.{RegexSet}
 use Rattle.fancy_regex_c.specs.declared.handle.Handle.{Handle}
 use Rattle.fancy_regex_c.specs.declared.handle.Kept.{Kept}
 use Rattle.fancy_regex_c.specs.declared.handle.Kept.TheVariants as Of
-use Rattle.fancy_regex_c.specs.declared.plain.Request.{Request}
 use Rattle.fancy_regex_c.specs.declared.under_way.MatchList.{MatchList}
 use Rattle.fancy_regex_c.specs.declared.under_way.Owned.{Owned}
 use Rattle.fancy_regex_c.specs.declared.under_way.Owned.TheVariants.{Text, Bytes}
 use Rattle.fancy_regex_c.specs.declared.under_way.TokenList.{TokenList}
-use Rattle.fancy_regex_c.specs.Handles.{IsSame}
 
 -- the bytes of a haystack of a list's own
 abbrev pub owned_bytes : Owned → List ℕ
@@ -21,18 +17,6 @@ owned_bytes (Bytes bytes) = vec_items bytes
 abbrev pub is_owned_text : Owned → Bool
 is_owned_text (Text text) = true
 is_owned_text (Bytes bytes) = false
-
--- the list is of this regex, these bytes and this request
-pub record IsMatchListOf (regex : Regex) (bytes : List ℕ) (r : Request) (list : MatchList) : Type 0 where
-  pub of_regex : list.regex.value ≡ regex
-  pub of_bytes : owned_bytes list.haystack ≡ bytes
-  pub of_request : list.request ≡ r
-
--- the list is of this set, these bytes and this request
-pub record IsTokenListOf (set : RegexSet) (bytes : List ℕ) (r : Request) (list : TokenList) : Type 0 where
-  pub of_set : list.set.value ≡ set
-  pub of_bytes : owned_bytes list.haystack ≡ bytes
-  pub of_request : list.request ≡ r
 
 -- P of the list of matches, where that is what is kept, and else Q
 abbrev pub ByMatches : Kept → (MatchList → Type 0) → Type 0 → Type 0

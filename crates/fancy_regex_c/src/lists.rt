@@ -1,251 +1,115 @@
-//! Lists of matches. A call gives as many as there is room for, and the request says where the next one goes on.
-//!
-//! The next search starts where the match before ends, or at the place after an empty one. After a match that is not empty, an empty
-//! match at the start is passed over. After an empty match that was found where its search began, `\G` does not hold at the start.
-//! A list of the library does all that by itself, so a call has one for its matches. Where `\G` does not hold at the start, the
-//! call begins with a list for which it holds nowhere, up to the first match after which it holds again.
+//! Lists of matches. A call gives as many as there is room for, and the request says then where the list goes on.
 
-ghost use Rattle.std.specs.Prelude.{◌≡◌, ⊤, IfOk};
-ghost use Rattle.fancy_regex.specs.Inputs.{haystack_in, request_in};
-ghost use Rattle.fancy_regex.specs.Regexes.{options_in};
-ghost use Rattle.fancy_regex.specs.Searching.{CanSearch};
+ghost use Rattle.std.specs.Prelude.{◌≡◌, ◌<◌, ◌^◌, ◌⊎◌};
 ghost use Rattle.fancy_regex_c.specs.Handed.{handed_bytes, is_handed_text};
-ghost use Rattle.fancy_regex_c.specs.Handles.{IsSame, HeldRegex};
+ghost use Rattle.fancy_regex_c.specs.Handles.{IsSame, ByRegex, HeldRegex};
+ghost use Rattle.fancy_regex_c.specs.Lists.{span_that, TellsSpansIn, TellsSpans, TellsRowsIn, TellsRows};
+ghost use Rattle.fancy_regex.specs.Spans.{span_in_bytes};
 
-use crate::answers::{DONE, NO_HANDLE, NONE, answer_of};
+use crate::answers::{DONE, NO_HANDLE, NO_PLACE, NONE, answer_of};
 use crate::handed::Handed;
 use crate::handle::{Handle, Kept};
-use crate::plain::{AFTER_EMPTY, AFTER_MATCH, Request, Span, TEXT};
+use crate::plain::{Request, Span};
 use crate::regexes::put_groups;
-use fancy_regex::{
-    CaptureMatches, Captures, Input, MatchBytes, Matches, Regex, RegexInput, Result,
-};
+use fancy_regex::{MatchBytes, Regex};
 use std::alloc::Global;
 
-/// How far a list has come.
-#[derive(Clone, Copy)]
-struct Course {
-    // what the next search asks for
-    next: Request,
-    // what the search asked for that found the last match
-    before: Request,
-    // the last match
-    found: Span,
-}
-
-impl Course {
-    fn new(request: Request) -> Course {
-        Course {
-            next: request,
-            before: request,
-            found: Span::absent(),
-        }
-    }
-
-    /// Whether a match that a fresh list gives first is passed over in this one.
-    fn passes_over(&self, found: Span) -> bool {
-        self.next.standing == AFTER_MATCH && found.is_empty_at(self.next.start)
-    }
-
-    /// Goes on after a match that is passed over: the next search starts at `start`.
-    fn go_past(&mut self, start: usize) {
-        self.next = Request {
-            start,
-            standing: AFTER_EMPTY,
-            ..self.next
-        };
-    }
-
-    /// Goes on after a match: the next search starts at `start`.
-    fn go_after(&mut self, found: Span, start: usize) {
-        let before = self.next;
-        let standing = if found.start != found.end {
-            AFTER_MATCH
-        } else if found.end == before.start {
-            AFTER_EMPTY
-        } else {
-            0
-        };
-        *self = Course {
-            next: Request {
-                start,
-                standing,
-                ..before
-            },
-            before,
-            found,
-        };
-    }
-
-    /// Whether the list may have passed over an empty match, and then found the last one, an empty one too, where it went on.
-    fn may_have_passed(&self, bytes: &[u8]) -> bool {
-        self.before.standing == AFTER_MATCH
-            && self.found.start == self.found.end
-            && is_next_place(bytes, self.before, self.found.end)
-    }
-
-    /// Whether it did so: the search that would have found the empty match is made once more.
-    fn has_passed(&self, regex: &Regex, haystack: Handed<'_>) -> Result<bool> {
-        let Ok(input) = haystack.input_in(regex, self.before) else {
-            return Ok(false);
-        };
-        match regex.find_input(input)? {
-            Some(first) => Ok(span_of(first).is_empty_at(self.before.start)),
-            None => Ok(false),
-        }
-    }
-
-    /// What the next call asks for, so that the list goes on there.
-    fn onward(&self, regex: &Regex, haystack: Handed<'_>) -> Result<Request> {
-        if self.may_have_passed(haystack.as_bytes()) && self.has_passed(regex, haystack)? {
-            return Ok(Request {
-                standing: AFTER_EMPTY,
-                ..self.next
-            });
-        }
-        Ok(self.next)
-    }
-}
-
-/// Whether `end` is the place after the request's start: the next byte, or in text the next boundary of characters.
-fn is_next_place(bytes: &[u8], request: Request, end: usize) -> bool {
-    if end <= request.start || end > bytes.len() {
-        return false;
-    }
-    if !request.has(TEXT) {
-        return end - request.start == 1;
-    }
-    bytes[request.start + 1..end]
-        .iter()
-        .all(|byte| (0x80..0xC0).contains(byte))
-}
-
-/// What a request of a list that has ended asks for: nothing more.
-fn ended(request: Request) -> Request {
-    Request {
-        start: usize::MAX,
-        standing: 0,
-        ..request
-    }
-}
-
-/// What the searches of a list from this request on ask of the haystack; `NO_PLACE` where it may not be searched so.
-fn list_input<'h>(
-    regex: &Regex,
-    haystack: Handed<'h>,
-    request: Request,
-) -> std::result::Result<RegexInput<Handed<'h>>, u32>
-    ensures haystack { IfOk result (λ i. haystack_in i ≡ haystack.entry) }
-    ensures searched { IfOk result (λ i. CanSearch (options_in regex.now)
-        (is_handed_text (haystack_in i)) (handed_bytes (haystack_in i)) (request_in i)) }
+fn span_of(found: MatchBytes<'_>) -> Span
+    ensures { result ≡ span_that (span_in_bytes found.entry) }
 {
-    let input = haystack.input_in(regex, request)?;
-    if request.standing == AFTER_EMPTY {
-        Ok(input.continue_from_previous_match_end(false))
-    } else {
-        Ok(input)
-    }
-}
-
-/// Has the request say where the list goes on.
-fn go_on(course: &Course, regex: &Regex, haystack: Handed<'_>, request: &mut Request) -> u32 {
-    match course.onward(regex, haystack) {
-        Ok(next) => {
-            *request = next;
-            DONE
-        }
-        Err(error) => {
-            *request = ended(*request);
-            answer_of(error)
-        }
-    }
-}
-
-/// The next match of a list, which may begin with one that is passed over.
-fn next_match<'h>(list: &mut Matches<'_, Handed<'h>>, course: &mut Course) -> Option<Result<Span>> {
-    let found = match list.next()? {
-        Ok(found) => span_of(found),
-        Err(error) => return Some(Err(error)),
-    };
-    if !course.passes_over(found) {
-        course.go_after(found, list.input().start());
-        return Some(Ok(found));
-    }
-    course.go_past(list.input().start());
-    let found = match list.next()? {
-        Ok(found) => span_of(found),
-        Err(error) => return Some(Err(error)),
-    };
-    course.go_after(found, list.input().start());
-    Some(Ok(found))
-}
-
-fn span_of(found: MatchBytes<'_>) -> Span {
     Span {
         start: found.start(),
         end: found.end(),
     }
 }
 
-/// Gives the next matches: as many as there is room for, or, where `\G` does not hold at the start, up to one after which it does.
-fn find_some(
-    regex: &Regex,
-    haystack: Handed<'_>,
-    request: &mut Request,
-    spans: &mut [Span],
-    written: &mut usize,
-) -> u32 {
-    *written = 0;
-    let input = match list_input(regex, haystack, *request) {
-        Ok(input) => input,
-        Err(answer) => return answer,
-    };
-    let mut list = regex.find_iter_input(input);
-    let mut course = Course::new(*request);
-    for place in 0..spans.len() {
-        match next_match(&mut list, &mut course) {
-            Some(Ok(found)) => {
-                spans[place] = found;
-                *written = place + 1;
-            }
-            Some(Err(error)) => {
-                *request = ended(*request);
-                return answer_of(error);
-            }
-            None => {
-                *request = ended(*request);
-                return NONE;
-            }
-        }
-        if request.standing == AFTER_EMPTY && course.next.standing != AFTER_EMPTY {
-            break;
-        }
+/// Has the request of a list that gives nothing more say so.
+fn end_after(answer: u32, request: &mut Request)
+    ensures left { (answer ≡ 0) ⊎ (answer ≡ 3) → request.new ≡ request.old }
+    ensures moved { request.new ≡ record request.old { start = request.new.start } }
+    ensures past { (answer ≡ 0 → ⊥) → (answer ≡ 3 → ⊥) → request.new.start ≡ 18446744073709551615 }
+{
+    if answer != DONE && answer != NO_PLACE {
+        request.end_list();
     }
-    go_on(&course, regex, haystack, request)
 }
 
-/// Gives the next matches, as many as there is room for.
+/// Gives the next matches, as many as there is room for. The request comes to where the list stands.
 pub fn find_all_in(
     regex: &Regex,
     haystack: Handed<'_>,
     request: &mut Request,
     spans: &mut [Span],
     written: &mut usize,
-) -> u32 {
+) -> u32
+    ensures told { TellsSpansIn regex.now (is_handed_text haystack.entry) (handed_bytes haystack.entry)
+        request.old request.new spans.old spans.new written.new result }
+    ensures short { (result ≡ 3 → ⊥) → request.new.end < 2 ^ 63 }
+{
     *written = 0;
-    if request.standing == AFTER_EMPTY {
-        let answer = find_some(regex, haystack, request, spans, written);
-        if answer != DONE || *written >= spans.len() {
-            return answer;
+    let input = match haystack.input_in(regex, *request) {
+        Ok(input) => input,
+        Err(answer) => return answer,
+    };
+    let mut list = regex.resume_matches(input, request.onward());
+    for index in 0..spans.len() {
+        match list.next() {
+            Some(Ok(found)) => {
+                spans[index] = span_of(found);
+                *written = index + 1;
+                request.go_on(list.input().start(), list.onward());
+            }
+            Some(Err(error)) => return answer_of(error),
+            None => return NONE,
         }
     }
-    let mut more = 0;
-    let answer = find_some(regex, haystack, request, &mut spans[*written..], &mut more);
-    *written = written.saturating_add(more);
+    DONE
+}
+
+fn find_all_of_bytes(
+    regex: &Regex,
+    haystack: &[u8],
+    request: &mut Request,
+    spans: &mut [Span],
+    written: &mut usize,
+) -> u32
+    ensures { TellsSpans regex.now haystack.now request.old request.new spans.old spans.new written.new result }
+{
+    *written = 0;
+    let haystack = match Handed::new(haystack, *request) {
+        Ok(haystack) => haystack,
+        Err(answer) => return answer,
+    };
+    let answer = find_all_in(regex, haystack, request, spans, written);
+    end_after(answer, request);
     answer
 }
 
+impl Kept {
+    fn find_all(
+        &self,
+        haystack: &[u8],
+        request: &mut Request,
+        spans: &mut [Span],
+        written: &mut usize,
+    ) -> u32
+        ensures { ByRegex self.now
+            (λ r. TellsSpans r haystack.now request.old request.new spans.old spans.new written.new result)
+            ((result ≡ 5) × (request.new ≡ request.old) × (spans.new ≡ spans.old)
+            × (written.new ≡ written.old)) }
+    {
+        match self {
+            Kept::Regex(regex) => find_all_of_bytes(regex, haystack, request, spans, written),
+            _ => NO_HANDLE,
+        }
+    }
+}
+
 /// The matches of a list, as many as there is room for. The request says then where the list goes on.
+///
+/// `DONE` where the buffer is full, and there may be more. `NONE` where the list has ended, and what a search is refused with, which
+/// ends the list too: from then on it gives none. The matches before stand in the buffer in each case. `NOT_TEXT` and `NO_PLACE` are
+/// those of [`crate::regexes::fancy_regex_is_match`]. `NO_HANDLE` where the handle holds no regex.
 #[unsafe(no_mangle)]
 pub extern "C" fn fancy_regex_find_all(
     alloc: Global,
@@ -256,114 +120,95 @@ pub extern "C" fn fancy_regex_find_all(
     written: &mut usize,
 ) -> u32
     ensures kept { IsSame regex.new regex.old }
-    ensures answer { HeldRegex regex.old (λ _. ⊤) (result ≡ 5) }
+    ensures answer { HeldRegex regex.old
+        (λ r. TellsSpans r haystack.now request.old request.new spans.old spans.new written.new result)
+        ((result ≡ 5) × (request.new ≡ request.old) × (spans.new ≡ spans.old)
+        × (written.new ≡ written.old)) }
 {
     let Some(kept) = regex.take(alloc) else {
         return NO_HANDLE;
     };
-    let answer = match &*kept {
-        Kept::Regex(regex) => match Handed::new(haystack, *request) {
-            Ok(haystack) => find_all_in(regex, haystack, request, spans, written),
-            Err(answer) => answer,
-        },
-        _ => NO_HANDLE,
-    };
+    let answer = kept.find_all(haystack, request, spans, written);
     *regex = Handle::of(kept);
     answer
 }
 
-/// The next match of a list with its groups, which may begin with one that is passed over.
-fn next_captures<'r, 'h>(
-    list: &mut CaptureMatches<'r, Handed<'h>>,
-    course: &mut Course,
-) -> Option<Result<Captures<'r, Handed<'h>>>> {
-    let captures = match list.next()? {
-        Ok(captures) => captures,
-        Err(error) => return Some(Err(error)),
-    };
-    let found = whole_of(&captures);
-    if !course.passes_over(found) {
-        course.go_after(found, list.input().start());
-        return Some(Ok(captures));
-    }
-    course.go_past(list.input().start());
-    let captures = match list.next()? {
-        Ok(captures) => captures,
-        Err(error) => return Some(Err(error)),
-    };
-    course.go_after(whole_of(&captures), list.input().start());
-    Some(Ok(captures))
-}
-
-fn whole_of(captures: &Captures<'_, Handed<'_>>) -> Span {
-    match captures.get(0) {
-        Some(found) => span_of(found),
-        None => Span::absent(),
-    }
-}
-
-/// Gives the next matches with their groups, as [`find_some`] does.
-fn capture_some(
-    regex: &Regex,
-    haystack: Handed<'_>,
-    request: &mut Request,
-    groups: &mut [Span],
-    written: &mut usize,
-) -> u32 {
-    *written = 0;
-    let input = match list_input(regex, haystack, *request) {
-        Ok(input) => input,
-        Err(answer) => return answer,
-    };
-    let mut list = regex.captures_iter_input(input);
-    let mut course = Course::new(*request);
-    for row in groups.chunks_exact_mut(regex.captures_len().max(1)) {
-        match next_captures(&mut list, &mut course) {
-            Some(Ok(captures)) => {
-                put_groups(&captures, row);
-                *written = written.saturating_add(1);
-            }
-            Some(Err(error)) => {
-                *request = ended(*request);
-                return answer_of(error);
-            }
-            None => {
-                *request = ended(*request);
-                return NONE;
-            }
-        }
-        if request.standing == AFTER_EMPTY && course.next.standing != AFTER_EMPTY {
-            break;
-        }
-    }
-    go_on(&course, regex, haystack, request)
-}
-
-/// Gives the next matches with their groups, as many as there is room for.
+/// Gives the next matches with their groups, as many as there is room for. The request comes to where the list stands.
 pub fn captures_all_in(
     regex: &Regex,
     haystack: Handed<'_>,
     request: &mut Request,
     groups: &mut [Span],
     written: &mut usize,
-) -> u32 {
+) -> u32
+    ensures told { TellsRowsIn regex.now (is_handed_text haystack.entry) (handed_bytes haystack.entry)
+        request.old request.new groups.old groups.new written.new result }
+    ensures short { (result ≡ 3 → ⊥) → request.new.end < 2 ^ 63 }
+{
     *written = 0;
+    let input = match haystack.input_in(regex, *request) {
+        Ok(input) => input,
+        Err(answer) => return answer,
+    };
+    let mut list = regex.resume_captures(input, request.onward());
+    let width = regex.captures_len();
     let mut used = 0;
-    if request.standing == AFTER_EMPTY {
-        let answer = capture_some(regex, haystack, request, groups, written);
-        used = written.saturating_mul(regex.captures_len());
-        if answer != DONE || used >= groups.len() {
-            return answer;
+    'rows: while groups.len() - used >= width {
+        match list.next() {
+            Some(Ok(captures)) => {
+                put_groups(&captures, &mut groups[used..used + width]);
+                used += width;
+                *written += 1;
+                request.go_on(list.input().start(), list.onward());
+            }
+            Some(Err(error)) => return answer_of(error),
+            None => return NONE,
         }
     }
-    let mut more = 0;
-    let answer = capture_some(regex, haystack, request, &mut groups[used..], &mut more);
-    *written = written.saturating_add(more);
+    DONE
+}
+
+fn captures_all_of_bytes(
+    regex: &Regex,
+    haystack: &[u8],
+    request: &mut Request,
+    groups: &mut [Span],
+    written: &mut usize,
+) -> u32
+    ensures { TellsRows regex.now haystack.now request.old request.new groups.old groups.new written.new result }
+{
+    *written = 0;
+    let haystack = match Handed::new(haystack, *request) {
+        Ok(haystack) => haystack,
+        Err(answer) => return answer,
+    };
+    let answer = captures_all_in(regex, haystack, request, groups, written);
+    end_after(answer, request);
     answer
 }
 
+impl Kept {
+    fn captures_all(
+        &self,
+        haystack: &[u8],
+        request: &mut Request,
+        groups: &mut [Span],
+        written: &mut usize,
+    ) -> u32
+        ensures { ByRegex self.now
+            (λ r. TellsRows r haystack.now request.old request.new groups.old groups.new written.new result)
+            ((result ≡ 5) × (request.new ≡ request.old) × (groups.new ≡ groups.old)
+            × (written.new ≡ written.old)) }
+    {
+        match self {
+            Kept::Regex(regex) => captures_all_of_bytes(regex, haystack, request, groups, written),
+            _ => NO_HANDLE,
+        }
+    }
+}
+
 /// The matches of a list with their groups, as many as there is room for: for each as many spans as the regex has groups. The
-/// request says then where the list goes on.
+/// request says then where the list goes on. The answers are those of [`fancy_regex_find_all`].
 #[unsafe(no_mangle)]
 pub extern "C" fn fancy_regex_captures_all(
     alloc: Global,
@@ -374,18 +219,15 @@ pub extern "C" fn fancy_regex_captures_all(
     written: &mut usize,
 ) -> u32
     ensures kept { IsSame regex.new regex.old }
-    ensures answer { HeldRegex regex.old (λ _. ⊤) (result ≡ 5) }
+    ensures answer { HeldRegex regex.old
+        (λ r. TellsRows r haystack.now request.old request.new groups.old groups.new written.new result)
+        ((result ≡ 5) × (request.new ≡ request.old) × (groups.new ≡ groups.old)
+        × (written.new ≡ written.old)) }
 {
     let Some(kept) = regex.take(alloc) else {
         return NO_HANDLE;
     };
-    let answer = match &*kept {
-        Kept::Regex(regex) => match Handed::new(haystack, *request) {
-            Ok(haystack) => captures_all_in(regex, haystack, request, groups, written),
-            Err(answer) => answer,
-        },
-        _ => NO_HANDLE,
-    };
+    let answer = kept.captures_all(haystack, request, groups, written);
     *regex = Handle::of(kept);
     answer
 }

@@ -1,8 +1,10 @@
 //! The structs that cross as they are.
 
 ghost use Rattle.std.specs.Prelude.{◌≡◌, None};
-ghost use Rattle.fancy_regex_c.specs.Asked.{has_flag};
+ghost use Rattle.fancy_regex_c.specs.Asked.{has_flag, onward_from};
 ghost use Rattle.fancy_regex_c.specs.Searches.{crossing};
+
+use fancy_regex::Onward;
 
 /// A span of bytes.
 #[repr(C)]
@@ -24,11 +26,6 @@ impl Span {
             end: usize::MAX,
         }
     }
-
-    /// Whether it is empty and stands there.
-    pub fn is_empty_at(&self, place: usize) -> bool {
-        self.start == place && self.end == place
-    }
 }
 
 /// A pattern of a set, and what it matched.
@@ -45,7 +42,9 @@ pub struct Member {
 
 impl Member {
     /// Nothing, at this place: an empty match of pattern 0.
-    pub fn nothing_at(place: usize) -> Member {
+    pub fn nothing_at(place: usize) -> Member
+        ensures { result ≡ record { pattern = 0; start = place; end = place } }
+    {
         Member {
             pattern: 0,
             start: place,
@@ -70,10 +69,10 @@ pub const NO_END: u32 = 8;
 pub const NOT_CONTINUED: u32 = 16;
 
 /// A list goes on right after a match that ended at its start: an empty match there is passed over.
-pub const AFTER_MATCH: u32 = 1;
+const AFTER_MATCH: u32 = 1;
 
 /// A list goes on after an empty match that was found where its search began: `\G` does not hold at the start.
-pub const AFTER_EMPTY: u32 = 2;
+const AFTER_EMPTY: u32 = 2;
 
 /// Whether a flag is among these, added up.
 pub fn has_flag(flags: u32, flag: u32) -> bool
@@ -92,7 +91,7 @@ pub struct Request {
     pub end: usize,
     /// The flags above, added up.
     pub flags: u32,
-    /// Where a list stands, which lists alone read: 0 at first, [`AFTER_MATCH`] or [`AFTER_EMPTY`].
+    /// Where a list stands, which lists alone read: 0 at first. They set it.
     pub standing: u32,
 }
 
@@ -102,6 +101,38 @@ impl Request {
         ensures { result ≡ has_flag self.now.flags flag }
     {
         has_flag(self.flags, flag)
+    }
+
+    /// How a list goes on from the start.
+    pub fn onward(&self) -> Onward
+        ensures { result ≡ onward_from self.now.standing }
+    {
+        Onward {
+            continues: !has_flag(self.standing, AFTER_EMPTY),
+            skips_empty: has_flag(self.standing, AFTER_MATCH),
+        }
+    }
+
+    /// Has the list go on from this start.
+    pub fn go_on(&mut self, start: usize, onward: Onward)
+        ensures moved { self.new ≡ record self.old { start = start; standing = self.new.standing } }
+        ensures onward { onward_from self.new.standing ≡ onward }
+    {
+        self.start = start;
+        self.standing = match (onward.skips_empty, onward.continues) {
+            (false, true) => 0,
+            (true, true) => AFTER_MATCH,
+            (false, false) => AFTER_EMPTY,
+            (true, false) => AFTER_MATCH + AFTER_EMPTY,
+        };
+    }
+
+    /// Has the list give nothing more.
+    pub fn end_list(&mut self)
+        ensures moved { self.new ≡ record self.old { start = self.new.start } }
+        ensures past { self.new.start ≡ 18446744073709551615 }
+    {
+        self.start = usize::MAX;
     }
 }
 

@@ -147,11 +147,8 @@ fn put_members(
     ensures refused { IfErr result (λ e. (k : ℕ) × RefusesMember
         (question_of handed_bytes matches.entry) (position_of matches.entry) k e) }
 {
-    let patterns = matches.regex_set().len();
     for found in matches {
         let found = found?;
-        let pattern = found.pattern();
-        prove!(pattern < patterns);
         put_next(member_of(&found), members, wanted);
     }
     Ok(())

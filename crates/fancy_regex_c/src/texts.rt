@@ -23,7 +23,9 @@ use std::borrow::CowStr;
 /// How matches are replaced.
 #[repr(C)]
 #[derive(Clone, Copy)]
-pub struct Replacing {
+pub struct Replacing<'r> {
+    /// What stands for each match.
+    pub replacement: &'r [u8],
     /// How many matches are replaced at most; 0 for all.
     pub limit: usize,
     /// 1 where the replacement is taken as it is, and 0 where it is a template.
@@ -35,14 +37,15 @@ fn replaced<'t>(
     regex: &Regex,
     text: &'t str,
     replacement: &str,
-    how: Replacing,
+    how: Replacing<'_>,
 ) -> Result<CowStr<'t, Global>>
+    requires same { replacement.now ≡ how.replacement.now }
     requires suits { Suits (options_in regex.now) true text.now }
     ensures borrowed { IfOk result (λ t. IsBorrowedStr t ↔ (all_matches regex.now text.now ≡ [])) }
     ensures text { IfOk result
-        (λ t. cow_str_bytes t ≡ text_with regex.now text.now replacement.now how) }
-    ensures allowed { IfOk result (λ _. AllowsReplacing regex.now text.now how.limit) }
-    ensures refused { IfErr result (λ e. IsRefusedAfterSome regex.now text.now how.limit e) }
+        (λ t. cow_str_bytes t ≡ text_with regex.now text.now how.entry) }
+    ensures allowed { IfOk result (λ _. AllowsReplacing regex.now text.now how.entry.limit) }
+    ensures refused { IfErr result (λ e. IsRefusedAfterSome regex.now text.now how.entry.limit e) }
 {
     if how.literal == 0 {
         regex.replacen(text, how.limit, replacement)
@@ -54,18 +57,17 @@ fn replaced<'t>(
 fn replace_in(
     regex: &Regex,
     text: &[u8],
-    replacement: &[u8],
-    how: Replacing,
+    how: Replacing<'_>,
     buffer: &mut [u8],
     wanted: &mut usize,
 ) -> u32
-    ensures { TellsReplaced regex.now text.now replacement.now how buffer.old buffer.new wanted.new result }
+    ensures { TellsReplaced regex.now text.now how.entry buffer.old buffer.new wanted.new result }
 {
     *wanted = 0;
     let Ok(text) = str::from_utf8(text) else {
         return NOT_TEXT;
     };
-    let Ok(replacement) = str::from_utf8(replacement) else {
+    let Ok(replacement) = str::from_utf8(how.replacement) else {
         return NOT_TEXT;
     };
     if !regex.can_search(&RegexInput::new(text)) {
@@ -79,20 +81,13 @@ fn replace_in(
 }
 
 impl Kept {
-    fn replace(
-        &self,
-        text: &[u8],
-        replacement: &[u8],
-        how: Replacing,
-        buffer: &mut [u8],
-        wanted: &mut usize,
-    ) -> u32
+    fn replace(&self, text: &[u8], how: Replacing<'_>, buffer: &mut [u8], wanted: &mut usize) -> u32
         ensures { ByRegex self.now
-            (λ r. TellsReplaced r text.now replacement.now how buffer.old buffer.new wanted.new result)
+            (λ r. TellsReplaced r text.now how.entry buffer.old buffer.new wanted.new result)
             ((result ≡ 5) × (buffer.new ≡ buffer.old) × (wanted.new ≡ wanted.old)) }
     {
         match self {
-            Kept::Regex(regex) => replace_in(regex, text, replacement, how, buffer, wanted),
+            Kept::Regex(regex) => replace_in(regex, text, how, buffer, wanted),
             _ => NO_HANDLE,
         }
     }
@@ -108,20 +103,19 @@ pub extern "C" fn fancy_regex_replace(
     alloc: Global,
     regex: &mut Handle,
     text: &[u8],
-    replacement: &[u8],
-    how: &Replacing,
+    how: &Replacing<'_>,
     buffer: &mut [u8],
     wanted: &mut usize,
 ) -> u32
     ensures kept { IsSame regex.new regex.old }
     ensures answer { HeldRegex regex.old
-        (λ r. TellsReplaced r text.now replacement.now how.now buffer.old buffer.new wanted.new result)
+        (λ r. TellsReplaced r text.now how.now buffer.old buffer.new wanted.new result)
         ((result ≡ 5) × (buffer.new ≡ buffer.old) × (wanted.new ≡ wanted.old)) }
 {
     let Some(kept) = regex.take(alloc) else {
         return NO_HANDLE;
     };
-    let answer = kept.replace(text, replacement, *how, buffer, wanted);
+    let answer = kept.replace(text, *how, buffer, wanted);
     *regex = Handle::of(kept);
     answer
 }

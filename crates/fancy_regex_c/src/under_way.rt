@@ -4,12 +4,15 @@
 //! times as many each time, up to 512. So what a search is refused for is told in its turn, and a list that is left early did not
 //! search much further.
 
-ghost use Rattle.std.specs.Prelude.{◌≡◌, ◌⊎◌, ⊤, IfOk, IfErr};
+ghost use Rattle.std.specs.Prelude.{◌≡◌, ◌≤◌, ◌<◌, ◌+◌, ◌*◌, ◌⊎◌, ◌↔◌, IsTrue, true, false, not, nat_eq, IfOk, IfErr, MatchOption, None, length, take, drop, slice_index_or, vec_items};
 ghost use Rattle.fancy_regex_c.specs.Answers.{IsUnread};
 ghost use Rattle.fancy_regex_c.specs.Asked.{says_text, IsAsSaid, IsPlace, IsPlaceOfSet};
 ghost use Rattle.fancy_regex_c.specs.Handed.{handed_bytes, is_handed_text};
 ghost use Rattle.fancy_regex_c.specs.Handles.{IsSame, ByRegex, BySet, HeldRegex, HeldSet};
-ghost use Rattle.fancy_regex_c.specs.UnderWay.{owned_bytes, is_owned_text, IsMatchListOf, IsTokenListOf, ByMatches, ByTokens, HeldMatches, HeldTokens, Begins};
+ghost use Rattle.fancy_regex_c.specs.Lists.{TellsRowsIn, TellsSpansIn};
+ghost use Rattle.fancy_regex_c.specs.NextMatches.{IsNewMatchListOf, IsNextMatch};
+ghost use Rattle.fancy_regex_c.specs.NextTokens.{IsNewTokenListOf, IsNextToken};
+ghost use Rattle.fancy_regex_c.specs.UnderWay.{owned_bytes, is_owned_text, ByMatches, ByTokens, HeldMatches, HeldTokens, Begins};
 
 use crate::answers::{DONE, NO_HANDLE, NO_MEMORY, NONE, NOT_TEXT, UNMATCHED};
 use crate::handed::Handed;
@@ -82,7 +85,11 @@ struct Progress {
 }
 
 impl Progress {
-    fn new() -> Progress {
+    ghost use Rattle.fancy_regex_c.specs.Courses.{WantsMore};
+
+    fn new() -> Progress
+        ensures { result ≡ record { ready = 0; given = 0; room = 8; last = 0 } }
+    {
         Progress {
             ready: 0,
             given: 0,
@@ -91,11 +98,18 @@ impl Progress {
         }
     }
 
-    fn wants_more(&self) -> bool {
+    fn wants_more(&self) -> bool
+        ensures { IsTrue result ↔ WantsMore self.now }
+    {
         self.given >= self.ready && self.last == DONE
     }
 
-    fn found(&mut self, ready: usize, last: u32) {
+    fn found(&mut self, ready: usize, last: u32)
+        ensures ready { self.new.ready ≡ ready }
+        ensures given { self.new.given ≡ 0 }
+        ensures last { self.new.last ≡ last }
+        ensures room { 0 < self.old.room → 0 < self.new.room }
+    {
         self.ready = ready;
         self.given = 0;
         self.last = last;
@@ -103,7 +117,13 @@ impl Progress {
     }
 
     /// The number of the next item that is ready.
-    fn take(&mut self) -> Option<usize> {
+    fn take(&mut self) -> Option<usize>
+        ensures same { (self.new.ready ≡ self.old.ready) × (self.new.room ≡ self.old.room)
+            × (self.new.last ≡ self.old.last) }
+        ensures taken { MatchOption result
+            ((self.old.ready ≤ self.old.given) × (self.new.given ≡ self.old.given))
+            (λ i. (i ≡ self.old.given) × (i < self.old.ready) × (self.new.given ≡ i + 1)) }
+    {
         if self.given >= self.ready {
             return None;
         }
@@ -112,7 +132,12 @@ impl Progress {
     }
 
     /// What is answered after the last item: why there is none, and then that there is none.
-    fn end(&mut self) -> u32 {
+    fn end(&mut self) -> u32
+        ensures told { result ≡ self.old.last }
+        ensures ended { self.new.last ≡ 1 }
+        ensures same { (self.new.ready ≡ self.old.ready) × (self.new.given ≡ self.old.given)
+            × (self.new.room ≡ self.old.room) }
+    {
         let answer = self.last;
         self.last = NONE;
         answer
@@ -131,9 +156,38 @@ pub struct MatchList {
     progress: Progress,
 }
 
+/// Gives the next matches, with their groups or not.
+fn rows_in(
+    regex: &Regex,
+    haystack: Handed<'_>,
+    has_groups: bool,
+    request: &mut Request,
+    spans: &mut [Span],
+    written: &mut usize,
+) -> u32
+    ensures groups { has_groups ≡ true
+        → TellsRowsIn regex.now (is_handed_text haystack.entry) (handed_bytes haystack.entry)
+        request.old request.new spans.old spans.new written.new result }
+    ensures alone { has_groups ≡ false
+        → TellsSpansIn regex.now (is_handed_text haystack.entry) (handed_bytes haystack.entry)
+        request.old request.new spans.old spans.new written.new result }
+{
+    if has_groups {
+        captures_all_in(regex, haystack, request, spans, written)
+    } else {
+        find_all_in(regex, haystack, request, spans, written)
+    }
+}
+
 impl MatchList {
+    ghost use Rattle.fancy_regex_c.specs.Courses.{WantsMore};
+    ghost use Rattle.fancy_regex_c.specs.NextMatches.{FindsMatches, ReadiesMatches, IsNextMatch, IsRow, width_by};
+    ghost use Rattle.fancy_regex_c.specs.Searches.{crossing};
+
     /// How many spans a match has.
-    fn width(&self) -> usize {
+    fn width(&self) -> usize
+        ensures { result ≡ width_by self.now.has_groups self.now.regex.value }
+    {
         if self.has_groups {
             self.regex.captures_len()
         } else {
@@ -142,20 +196,26 @@ impl MatchList {
     }
 
     /// Finds more matches. Where memory is refused the list stays as it is, and finds them when it is asked again.
-    fn find_more(&mut self) -> u32 {
+    fn find_more(&mut self) -> u32
+        ensures answer { (result ≡ 0) ⊎ (result ≡ 4) }
+        ensures found { result ≡ 0 → FindsMatches self.old self.new }
+        ensures same { result ≡ 4 → self.new ≡ record self.old { spans = self.new.spans } }
+    {
         let wanted = self.progress.room.saturating_mul(self.width());
-        if self.spans.resize(wanted, Span::absent()).is_err() {
+        let Ok(()) = self.spans.resize(wanted, Span::absent()) else {
             return NO_MEMORY;
-        }
+        };
         let mut count = 0;
         let mut request = self.request;
         let haystack = self.haystack.lend();
-        let spans = &mut self.spans;
-        let last = if self.has_groups {
-            captures_all_in(&self.regex, haystack, &mut request, spans, &mut count)
-        } else {
-            find_all_in(&self.regex, haystack, &mut request, spans, &mut count)
-        };
+        let last = rows_in(
+            &self.regex,
+            haystack,
+            self.has_groups,
+            &mut request,
+            &mut self.spans,
+            &mut count,
+        );
         if last == NO_MEMORY {
             return NO_MEMORY;
         }
@@ -164,28 +224,59 @@ impl MatchList {
         DONE
     }
 
-    fn put(&self, index: usize, groups: &mut [Span]) {
+    /// Has a match ready, if there is one.
+    fn make_ready(&mut self) -> u32
+        ensures answer { (result ≡ 0) ⊎ (result ≡ 4) }
+        ensures ready { result ≡ 0 → ReadiesMatches self.old self.new }
+        ensures wants { result ≡ 4 → WantsMore self.old.progress }
+        ensures same { result ≡ 4 → self.new ≡ record self.old { spans = self.new.spans } }
+    {
+        if self.progress.wants_more() {
+            self.find_more()
+        } else {
+            DONE
+        }
+    }
+
+    /// A span of a match that is ready, which is absent past the match's last one.
+    fn span_at(&self, index: usize, number: usize) -> Span
+        ensures { (index + 1) * width_by self.now.has_groups self.now.regex.value
+            ≤ length (vec_items self.now.spans)
+            → result ≡ slice_index_or (take (width_by self.now.has_groups self.now.regex.value)
+            (drop (index * width_by self.now.has_groups self.now.regex.value)
+            (vec_items self.now.spans))) number (crossing None) }
+    {
         let width = self.width();
+        if number >= width {
+            return Span::absent();
+        }
         let first = index.saturating_mul(width);
+        match self.spans.get(first.saturating_add(number)) {
+            Some(span) => *span,
+            None => Span::absent(),
+        }
+    }
+
+    /// Writes the spans of a match that is ready, as many as there is room for.
+    fn put(&self, index: usize, groups: &mut [Span])
+        ensures { (index + 1) * width_by self.now.has_groups self.now.regex.value
+            ≤ length (vec_items self.now.spans)
+            → IsRow groups.new (take (width_by self.now.has_groups self.now.regex.value)
+            (drop (index * width_by self.now.has_groups self.now.regex.value)
+            (vec_items self.now.spans))) }
+    {
         for number in 0..groups.len() {
-            groups[number] = if number < width {
-                match self.spans.get(first.saturating_add(number)) {
-                    Some(span) => *span,
-                    None => Span::absent(),
-                }
-            } else {
-                Span::absent()
-            };
+            groups[number] = self.span_at(index, number);
         }
     }
 
     /// Writes the groups of the next match.
-    fn next(&mut self, groups: &mut [Span]) -> u32 {
-        if self.progress.wants_more() {
-            let answer = self.find_more();
-            if answer != DONE {
-                return answer;
-            }
+    fn next(&mut self, groups: &mut [Span]) -> u32
+        ensures { IsNextMatch self.old self.new groups.old groups.new result }
+    {
+        let answer = self.make_ready();
+        if answer != DONE {
+            return answer;
         }
         match self.progress.take() {
             Some(index) => {
@@ -204,7 +295,8 @@ fn list_of(
     request: Request,
     has_groups: bool,
 ) -> Result<MatchList, u32>
-    ensures list { IfOk result (λ l. IsMatchListOf regex.now.value haystack.now request l) }
+    ensures list { IfOk result
+        (λ l. IsNewMatchListOf has_groups regex.now.value haystack.now request l) }
     ensures said { IfOk result (λ _. IsAsSaid haystack.now request) }
     ensures place { IfOk result (λ _. IsPlace regex.now.value haystack.now request) }
     ensures refused { IfErr result (λ answer.
@@ -237,7 +329,8 @@ impl Kept {
     ) -> u32
         ensures { ByRegex self.now
             (λ r. Begins (IsAsSaid haystack.now request) (IsPlace r haystack.now request)
-            (HeldMatches list.new (IsMatchListOf r haystack.now request) ⊥) (IsSame list.new list.old) result)
+            (HeldMatches list.new (IsNewMatchListOf has_groups r haystack.now request) ⊥)
+            (IsSame list.new list.old) result)
             ((result ≡ 5) × IsSame list.new list.old) }
     {
         match self {
@@ -258,7 +351,7 @@ impl Kept {
     ) -> u32
         ensures { BySet self.now
             (λ s. Begins (IsAsSaid haystack.now request) (IsPlaceOfSet s haystack.now request)
-            (HeldTokens list.new (IsTokenListOf s haystack.now request) ⊥) (IsSame list.new list.old) result)
+            (HeldTokens list.new (IsNewTokenListOf s haystack.now request) ⊥) (IsSame list.new list.old) result)
             ((result ≡ 5) × IsSame list.new list.old) }
     {
         match self {
@@ -271,7 +364,9 @@ impl Kept {
     }
 
     fn next_match(&mut self, groups: &mut [Span]) -> u32
-        ensures { ByMatches self.old (λ _. ⊤) ((result ≡ 5) × (groups.new ≡ groups.old)) }
+        ensures { ByMatches self.old
+            (λ l. ByMatches self.new (λ m. IsNextMatch l m groups.old groups.new result) ⊥)
+            ((result ≡ 5) × (self.new ≡ self.old) × (groups.new ≡ groups.old)) }
     {
         match self {
             Kept::Matches(matches) => matches.next(groups),
@@ -280,7 +375,9 @@ impl Kept {
     }
 
     fn next_token(&mut self, token: &mut Member) -> u32
-        ensures { ByTokens self.old (λ _. ⊤) ((result ≡ 5) × (token.new ≡ token.old)) }
+        ensures { ByTokens self.old
+            (λ l. ByTokens self.new (λ m. IsNextToken l m token.old token.new result) ⊥)
+            ((result ≡ 5) × (self.new ≡ self.old) × (token.new ≡ token.old)) }
     {
         match self {
             Kept::Tokens(tokens) => tokens.next(token),
@@ -305,7 +402,9 @@ pub extern "C" fn fancy_regex_matches_new(
     ensures kept { IsSame regex.new regex.old }
     ensures answer { HeldRegex regex.old
         (λ r. Begins (IsAsSaid haystack.now request.now) (IsPlace r haystack.now request.now)
-        (HeldMatches list.new (IsMatchListOf r haystack.now request.now) ⊥) (IsSame list.new list.old) result)
+        (HeldMatches list.new
+        (IsNewMatchListOf (not (nat_eq has_groups 0)) r haystack.now request.now) ⊥)
+        (IsSame list.new list.old) result)
         ((result ≡ 5) × IsSame list.new list.old) }
 {
     let Some(kept) = regex.take(alloc) else {
@@ -319,7 +418,9 @@ pub extern "C" fn fancy_regex_matches_new(
 /// Writes the groups of the next match of a list, as many as there is room for. `NO_HANDLE` where the handle holds no such list.
 #[unsafe(no_mangle)]
 pub extern "C" fn fancy_regex_next(alloc: Global, list: &mut Handle, groups: &mut [Span]) -> u32
-    ensures { HeldMatches list.old (λ _. ⊤) ((result ≡ 5) × (groups.new ≡ groups.old)) }
+    ensures { HeldMatches list.old
+        (λ l. HeldMatches list.new (λ m. IsNextMatch l m groups.old groups.new result) ⊥)
+        ((result ≡ 5) × IsSame list.new list.old × (groups.new ≡ groups.old)) }
 {
     let Some(mut kept) = list.take(alloc) else {
         return NO_HANDLE;
@@ -340,12 +441,19 @@ pub struct TokenList {
 }
 
 impl TokenList {
+    ghost use Rattle.fancy_regex_c.specs.Courses.{WantsMore};
+    ghost use Rattle.fancy_regex_c.specs.NextTokens.{FindsTokens, ReadiesTokens, IsNextToken};
+
     /// Finds more tokens. Where memory is refused the list stays as it is, and finds them when it is asked again.
-    fn find_more(&mut self) -> u32 {
+    fn find_more(&mut self) -> u32
+        ensures answer { (result ≡ 0) ⊎ (result ≡ 4) }
+        ensures found { result ≡ 0 → FindsTokens self.old self.new }
+        ensures same { result ≡ 4 → self.new ≡ record self.old { tokens = self.new.tokens } }
+    {
         let nothing = Member::nothing_at(0);
-        if self.tokens.resize(self.progress.room, nothing).is_err() {
+        let Ok(()) = self.tokens.resize(self.progress.room, nothing) else {
             return NO_MEMORY;
-        }
+        };
         let mut count = 0;
         let mut request = self.request;
         let haystack = self.haystack.lend();
@@ -364,13 +472,27 @@ impl TokenList {
         DONE
     }
 
-    /// Writes the next token. Where there is none at a place, that place is written.
-    fn next(&mut self, token: &mut Member) -> u32 {
+    /// Has a token ready, if there is one.
+    fn make_ready(&mut self) -> u32
+        ensures answer { (result ≡ 0) ⊎ (result ≡ 4) }
+        ensures ready { result ≡ 0 → ReadiesTokens self.old self.new }
+        ensures wants { result ≡ 4 → WantsMore self.old.progress }
+        ensures same { result ≡ 4 → self.new ≡ record self.old { tokens = self.new.tokens } }
+    {
         if self.progress.wants_more() {
-            let answer = self.find_more();
-            if answer != DONE {
-                return answer;
-            }
+            self.find_more()
+        } else {
+            DONE
+        }
+    }
+
+    /// Writes the next token. Where there is none at a place, that place is written.
+    fn next(&mut self, token: &mut Member) -> u32
+        ensures { IsNextToken self.old self.new token.old token.new result }
+    {
+        let answer = self.make_ready();
+        if answer != DONE {
+            return answer;
         }
         if let Some(index) = self.progress.take() {
             if let Some(found) = self.tokens.get(index) {
@@ -392,7 +514,7 @@ fn tokens_of(
     haystack: &[u8],
     request: Request,
 ) -> Result<TokenList, u32>
-    ensures list { IfOk result (λ l. IsTokenListOf set.now.value haystack.now request l) }
+    ensures list { IfOk result (λ l. IsNewTokenListOf set.now.value haystack.now request l) }
     ensures said { IfOk result (λ _. IsAsSaid haystack.now request) }
     ensures place { IfOk result (λ _. IsPlaceOfSet set.now.value haystack.now request) }
     ensures refused { IfErr result (λ answer.
@@ -426,7 +548,7 @@ pub extern "C" fn fancy_regex_tokens_new(
     ensures kept { IsSame set.new set.old }
     ensures answer { HeldSet set.old
         (λ s. Begins (IsAsSaid haystack.now request.now) (IsPlaceOfSet s haystack.now request.now)
-        (HeldTokens list.new (IsTokenListOf s haystack.now request.now) ⊥) (IsSame list.new list.old) result)
+        (HeldTokens list.new (IsNewTokenListOf s haystack.now request.now) ⊥) (IsSame list.new list.old) result)
         ((result ≡ 5) × IsSame list.new list.old) }
 {
     let Some(kept) = set.take(alloc) else {
@@ -444,7 +566,9 @@ pub extern "C" fn fancy_regex_next_token(
     list: &mut Handle,
     token: &mut Member,
 ) -> u32
-    ensures { HeldTokens list.old (λ _. ⊤) ((result ≡ 5) × (token.new ≡ token.old)) }
+    ensures { HeldTokens list.old
+        (λ l. HeldTokens list.new (λ m. IsNextToken l m token.old token.new result) ⊥)
+        ((result ≡ 5) × IsSame list.new list.old × (token.new ≡ token.old)) }
 {
     let Some(mut kept) = list.take(alloc) else {
         return NO_HANDLE;

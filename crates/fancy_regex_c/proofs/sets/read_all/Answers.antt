@@ -1,5 +1,5 @@
-use Rattle.std.proofs.Common.{◌≡◌, ◌∙◌, ℕ, List, ◌∷◌, [], ◌++◌, length, slice_index, ap, arith}
-use Rattle.fancy_regex_c.specs.SetReading.{part, text_at, refused, IsRead, AreRead}
+use Rattle.std.proofs.Common.{◌≡◌, ◌∙◌, ℕ, length, slice_index, ap, arith}
+use Rattle.fancy_regex_c.specs.SetReading.{part, text_at, refused, IsRead}
 use Rattle.fancy_regex_c.proofs.SetReadingLemmas.{read_more, starts_next}
 use Rattle.fancy_regex_c.proofs.sets.read_all.Goals as goal
 

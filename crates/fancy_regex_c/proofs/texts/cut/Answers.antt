@@ -1,4 +1,4 @@
-use Rattle.std.proofs.Common.{◌≡◌, ◌∙◌, ◌+◌, ◌<◌, ℕ, List, [], Bor, length, map, refl, ap, arith}
+use Rattle.std.proofs.Common.{◌≡◌, ◌∙◌, ◌+◌, ℕ, List, Bor, length, map, refl, ap, arith}
 use Rattle.fancy_regex.specs.declared.Request.{Request}
 use Rattle.fancy_regex.specs.Iterations.{next_request}
 use Rattle.fancy_regex.specs.MatchList.{MatchItem, span_of_item}
