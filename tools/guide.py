@@ -38,9 +38,10 @@ CALLS = {
         "Work": "new after steps returns units work reset is_spent has_work_for add add_attempt count_step_within count_return count_returns count_return_within count_units",
     },
     "lists": {
-        "Regex": "find_iter find_iter_input captures_iter captures_iter_input split splitn",
-        "Matches": "regex text input",
-        "CaptureMatches": "regex text input",
+        "Regex": "find_iter find_iter_input resume_matches captures_iter captures_iter_input resume_captures split splitn",
+        "Matches": "regex text input onward",
+        "CaptureMatches": "regex text input onward",
+        "Onward": "first",
     },
     "inputs": {
         "RegexInput": "new from_pos range anchored start_text end_text continue_from_previous_match_end haystack start get_range "

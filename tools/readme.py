@@ -14,7 +14,7 @@ from pathlib import Path
 
 ROOT = Path(__file__).resolve().parent.parent
 PAGES = [ROOT / "README.md", ROOT / "docs/GUIDE.md", ROOT / "crates/fancy_regex/CALLING.md"]
-EXAMPLES = [ROOT / "crates/readme_tests/src/searches.rt", ROOT / "crates/readme_tests/src/texts.rt"]
+EXAMPLES = [ROOT / "crates/caller_tests/src/searches.rt", ROOT / "crates/caller_tests/src/texts.rt"]
 PROGRAM = ROOT / "crates/dates"
 SOURCES = [
     *EXAMPLES,

@@ -23,7 +23,7 @@ LETTERS = {
     "case_insensitive": "i", "no_unicode_mode": "U", "only_named": "N", "find_not_empty": "E", "leftmost_longest": "L",
     "seek": "S", "ascii": "a", "unicode_bytes": "b",
 }
-LIMITS = {"backtrack_limit": "B", "stack_limit": "K", "step_limit": "W"}
+LIMITS = {"backtrack_limit": "B", "stack_limit": "K", "step_limit": "W", "max_prog_size": "P"}
 REFUSALS = {
     "given up": "error executing regex: limit for backtracking exceeded",
     "too many saved": "error executing regex: too many saved branches",
@@ -207,6 +207,14 @@ def refused(pattern, words, options=""):
         yield answered(asking.line("build", "-", pattern, ""), [refusal] * 3)
 
 
+def explained(pattern, haystack, explanation, options=""):
+    yield answered(asking.line("explain", in_options(options), pattern, haystack), [text(explanation)])
+
+
+def explained_tokens(patterns, haystack, explanation, options=""):
+    yield answered(asking.line("explain_tokens", in_options(options), patterns, haystack), [text(explanation)])
+
+
 def accepted(pattern, options=""):
     yield answered(asking.line("splitn", in_options(options), pattern, ""), [])
 
@@ -229,6 +237,7 @@ KINDS = {
     "replace": replace, "expand": expand, "expand as in Python": expand_as_in_python, "check": check, "escape": escape,
     "bytes": bytes_of_matches, "set": size_of_set, "in set": in_set, "groups in set": groups_in_set, "in sets": of_any_size(in_set),
     "tokens": tokens, "tokens of sets": of_any_size(tokens), "refused": refused, "accepted": accepted,
+    "explained": explained, "explained tokens": explained_tokens,
 }
 
 

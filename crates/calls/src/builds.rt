@@ -1,6 +1,7 @@
 //! What is made of patterns, and the calls that make it.
 
 use crate::cases::{Ask, Asked, options_of};
+use crate::explanations::explain;
 use crate::items::write_item;
 use fancy_regex::{Expander, Regex, RegexBuilder, RegexSet, Result, escape};
 use std::io;
@@ -16,6 +17,7 @@ impl Ask for Nothing {
             "build_again" => build_again(asked, out),
             "bytes" => bytes(asked, out),
             "escape" => escaped(asked, out),
+            "explain" | "explain_tokens" => explain(asked, out),
             _ => sets(asked, out),
         }
     }

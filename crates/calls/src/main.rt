@@ -3,8 +3,8 @@
 //!
 //! A line has four words, split by blanks: the call, letters of options, a number, and texts in hexadecimal, split by commas: the
 //! text, the template, and the patterns. After the letters and a comma `B1000` limits returns to 1000, `K1000` the branches that
-//! are saved, and `W1000` the work; the options of a set's patterns may be split by `;`, where each has its own. What the number
-//! means, the call says.
+//! are saved, `W1000` the work, and `P1000` the code; the options of a set's patterns may be split by `;`, where each has its own.
+//! What the number means, the call says.
 //!
 //! The answer is a line `>A<B`, where A and B are what the calls answer at first and once more: items with a `|` after each, a
 //! refusal among them as `!` and its text. Each call of the library gives one item, a list one for each item of it. The output is
@@ -15,6 +15,7 @@
 
 mod builds;
 mod cases;
+mod explanations;
 mod fields;
 mod items;
 mod searches;

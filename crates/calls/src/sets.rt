@@ -1,5 +1,7 @@
 //! Calls of pattern sets.
 
+ghost use Rattle.std.specs.Iterator.{IsFinite};
+
 use crate::cases::{Ask, Asked};
 use crate::fields::{begin, end, write_number, write_refusal, write_text};
 use crate::items::{Item, write_all, write_item};
@@ -63,6 +65,19 @@ impl Item for Grouped<'_> {
     }
 }
 
+/// Writes the matches of a list with their groups.
+fn write_grouped<'h, I, W>(matches: I, out: &mut W)
+where
+    I: Iterator<Item = Result<RegexSetMatch<'h, &'h str>>> + Drop,
+    W: io::Write,
+    requires can { I.can_next matches }
+    requires ends { IsFinite (I.remaining matches) }
+{
+    for found in matches {
+        write_item(found.map(Grouped), out);
+    }
+}
+
 /// Writes the matches of a set, with their groups where the line asks for these.
 fn write_matches<W: io::Write>(
     matches: RegexSetMatchesAt<'_, &str>,
@@ -70,10 +85,9 @@ fn write_matches<W: io::Write>(
     out: &mut W,
 ) {
     if asked.call == "in_set" {
-        return write_all(matches, out);
-    }
-    for found in matches {
-        write_item(found.map(Grouped), out);
+        write_all(matches, out);
+    } else {
+        write_grouped(matches, out);
     }
 }
 

@@ -4,18 +4,18 @@
 //! starts that finds none. A call of `next` gives the first that is left, or a refusal after which none is.
 
 ghost use Rattle.std.specs.Prelude.{◌+◌, ◌<◌, ◌^◌, ◌∷◌, ◌≡◌, IfNone, MatchOption, [], false, ⊤};
-ghost use Rattle.fancy_regex.specs.CaptureIterations.{groups_in_whole, groups_left, groups_of_input, matches_in};
+ghost use Rattle.fancy_regex.specs.CaptureIterations.{groups_in_whole, groups_left, groups_of_input, groups_onward, matches_in};
 ghost use Rattle.fancy_regex.specs.Captures.{found_by, searched_in, spans_in};
 ghost use Rattle.fancy_regex.specs.Inputs.{haystack_in, request_in};
-ghost use Rattle.fancy_regex.specs.Iterations.{RefusesMatch, allows_next, end_in, has_ended, haystack_of, items_bound, left_in, next_request, regex_in, spans_left};
+ghost use Rattle.fancy_regex.specs.Iterations.{RefusesMatch, allows_next, end_in, has_ended, haystack_of, items_bound, left_in, next_request, onward_of, regex_in, spans_left};
 ghost use Rattle.fancy_regex.specs.NextAnswers.{ByAnswer};
 ghost use Rattle.fancy_regex.specs.Regexes.{options_in};
 ghost use Rattle.fancy_regex.specs.Remaining.{EndsUnlessOk, IfItem, IfRefusal, UnlessRefusal, next_start};
 ghost use Rattle.fancy_regex.specs.Requests.{whole};
-ghost use Rattle.fancy_regex.specs.Searches.{CanSearchInput, last_start_in_whole, last_start_of_input, matches_in_whole, matches_of_input};
+ghost use Rattle.fancy_regex.specs.Searches.{CanSearchInput, last_start_in_whole, last_start_of_input, last_start_onward, matches_in_whole, matches_of_input, matches_onward};
 ghost use Rattle.fancy_regex.specs.Searching.{Suits};
 
-use fancy_regex::{CaptureMatches, Captures, Input, Matches, Regex, RegexInput, Result};
+use fancy_regex::{CaptureMatches, Captures, Input, Matches, Onward, Regex, RegexInput, Result};
 
 /// The matches in a haystack.
 pub fn find_iter<S: Input>(regex: &Regex, haystack: S) -> Matches<'_, S>
@@ -45,6 +45,37 @@ pub fn find_iter_input<S: Input>(regex: &Regex, input: RegexInput<S>) -> Matches
     ensures request { next_request result ≡ request_in input }
 {
     regex.find_iter_input(input)
+}
+
+/// The matches that an input asks for, as a list goes on that came so far.
+pub fn resume_matches<S: Input>(
+    regex: &Regex,
+    input: RegexInput<S>,
+    onward: Onward,
+) -> Matches<'_, S>
+    requires searched { CanSearchInput S.text S.bytes (options_in regex.now) input }
+    ensures matches { left_in S.text S.bytes result ≡ matches_onward regex.now
+        (S.text (haystack_in input)) (S.bytes (haystack_in input)) (request_in input) onward }
+    ensures end { end_in S.text S.bytes result ≡ last_start_onward regex.now
+        (S.text (haystack_in input)) (S.bytes (haystack_in input)) (request_in input) onward }
+    ensures countable { items_bound S.text S.bytes result < 2 ^ 64 }
+    ensures regex { regex_in result ≡ regex.now }
+    ensures text { haystack_of result ≡ haystack_in input }
+    ensures request { next_request result ≡ request_in input }
+    ensures onward { onward_of result ≡ onward }
+    ensures goes_on { has_ended result ≡ false }
+{
+    regex.resume_matches(input, onward)
+}
+
+/// How a list goes on.
+pub fn onward<S: Input>(matches: &Matches<'_, S>) -> Onward
+    ensures onward { result ≡ onward_of matches.now }
+    ensures left { has_ended matches.now ≡ false → left_in S.text S.bytes matches.now
+        ≡ matches_onward (regex_in matches.now) (S.text (haystack_of matches.now))
+        (S.bytes (haystack_of matches.now)) (next_request matches.now) result }
+{
+    matches.onward()
 }
 
 /// The next match.
@@ -115,6 +146,39 @@ pub fn captures_iter_input<S: Input>(regex: &Regex, input: RegexInput<S>) -> Cap
     ensures request { next_request (matches_in result) ≡ request_in input }
 {
     regex.captures_iter_input(input)
+}
+
+/// The same with their groups.
+pub fn resume_captures<S: Input>(
+    regex: &Regex,
+    input: RegexInput<S>,
+    onward: Onward,
+) -> CaptureMatches<'_, S>
+    requires searched { CanSearchInput S.text S.bytes (options_in regex.now) input }
+    ensures matches { groups_left S.text S.bytes result ≡ groups_onward regex.now
+        (S.text (haystack_in input)) (S.bytes (haystack_in input)) (request_in input) onward }
+    ensures end { end_in S.text S.bytes (matches_in result) ≡ last_start_onward regex.now
+        (S.text (haystack_in input)) (S.bytes (haystack_in input)) (request_in input) onward }
+    ensures countable { items_bound S.text S.bytes (matches_in result) < 2 ^ 64 }
+    ensures regex { regex_in (matches_in result) ≡ regex.now }
+    ensures text { haystack_of (matches_in result) ≡ haystack_in input }
+    ensures request { next_request (matches_in result) ≡ request_in input }
+    ensures onward { onward_of (matches_in result) ≡ onward }
+    ensures goes_on { has_ended (matches_in result) ≡ false }
+{
+    regex.resume_captures(input, onward)
+}
+
+/// How a list with groups goes on.
+pub fn captures_onward<S: Input>(matches: &CaptureMatches<'_, S>) -> Onward
+    ensures onward { result ≡ onward_of (matches_in matches.now) }
+    ensures left { has_ended (matches_in matches.now) ≡ false → groups_left S.text S.bytes matches.now
+        ≡ groups_onward (regex_in (matches_in matches.now))
+        (S.text (haystack_of (matches_in matches.now)))
+        (S.bytes (haystack_of (matches_in matches.now)))
+        (next_request (matches_in matches.now)) result }
+{
+    matches.onward()
 }
 
 /// The groups of the next match.

@@ -1,5 +1,5 @@
-//! Tests of groups, of lists of matches and of pieces, through public names. What the program `calls` can be asked for are rows in
-//! `crates/calls/rows.txt`.
+//! Tests of groups, of lists of matches and of pieces, of pattern sets and of tokens, through public names. What the program `calls`
+//! can be asked for are rows in `crates/calls/rows.txt`.
 #![tactic(auto)]
 
 #[cfg(test)]
@@ -15,4 +15,8 @@ mod lists;
 #[cfg(test)]
 mod odd;
 #[cfg(test)]
+mod pattern_sets;
+#[cfg(test)]
 mod readme;
+#[cfg(test)]
+mod tokens;

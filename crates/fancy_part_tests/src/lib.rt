@@ -1,5 +1,6 @@
-//! Tests of the library's parts: the sets, the trees and the code of patterns, haystacks and errors. What no call of `fancy_regex`
-//! shows by itself is asked of its own crate.
+//! Tests of the library's parts: the sets, the trees and the code of patterns, haystacks and errors; templates, replacers and replaced
+//! texts. What no call of `fancy_regex` shows by itself is asked of its own crate, and what the program `calls` can be asked for are rows
+//! in `crates/calls/rows.txt`.
 #![tactic(auto)]
 
 #[cfg(test)]
@@ -14,5 +15,9 @@ mod engines;
 mod errors;
 #[cfg(test)]
 mod haystacks;
+#[cfg(test)]
+mod replacement;
+#[cfg(test)]
+mod templates;
 #[cfg(test)]
 mod trees;

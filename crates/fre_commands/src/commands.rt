@@ -112,11 +112,11 @@ fn split<W: io::Write>(
     out: &mut W,
 ) -> Result<bool, Fault> {
     let regex = Regex::new(alloc, pattern)?;
-    write_pieces(regex.split(text), out)
+    write_pieces(&mut regex.split(text), out)
 }
 
-/// Writes a line for each piece.
-fn write_pieces<W: io::Write>(pieces: Split<'_, '_>, out: &mut W) -> Result<bool, Fault> {
+/// Writes a line for each piece. The list is lent, so that no way out of the loop drops it.
+fn write_pieces<W: io::Write>(pieces: &mut Split<'_, '_>, out: &mut W) -> Result<bool, Fault> {
     for piece in pieces {
         write_line(piece?, out)?;
     }
@@ -163,9 +163,17 @@ fn write_matches<W: io::Write>(
     matches: Option<RegexSetMatchesAt<'_, &str>>,
     out: &mut W,
 ) -> Result<bool, Fault> {
-    let Some(matches) = matches else {
-        return Ok(false);
-    };
+    match matches {
+        Some(mut matches) => write_each_match(&mut matches, out),
+        None => Ok(false),
+    }
+}
+
+/// Writes a line for each match of a list.
+fn write_each_match<W: io::Write>(
+    matches: &mut RegexSetMatchesAt<'_, &str>,
+    out: &mut W,
+) -> Result<bool, Fault> {
     for found in matches {
         let found = found?;
         let span = (found.start(), found.end());
@@ -183,11 +191,11 @@ fn tokens<W: io::Write>(
     let patterns = texts_of(alloc, patterns)?;
     let set = RegexSet::new(alloc, &patterns)?;
     let input = RegexInput::new(text);
-    write_tokens(set.tokens(input), out)
+    write_tokens(&mut set.tokens(input), out)
 }
 
 /// Writes a line for each token, and one for the place where no pattern gives one, if there is such a place.
-fn write_tokens<W: io::Write>(tokens: Tokens<'_, &str>, out: &mut W) -> Result<bool, Fault> {
+fn write_tokens<W: io::Write>(tokens: &mut Tokens<'_, &str>, out: &mut W) -> Result<bool, Fault> {
     for token in tokens {
         match token {
             Ok(token) => write_token(&token, out)?,

@@ -21,3 +21,11 @@ impl<'t> Spanned for MatchBytes<'t> {
         (self.start(), self.end())
     }
 }
+
+/// Whether the part of the text from the start to the end is this.
+pub(crate) fn is_part(text: &str, (start, end): Span, part: &str) -> bool {
+    match text.get(start..end) {
+        Some(found) => found == part,
+        None => false,
+    }
+}

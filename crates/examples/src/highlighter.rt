@@ -1,9 +1,10 @@
-//! Highlights a source: each kind of token has its mark, `kind:text`. Reads standard input, a line at a time.
-#![tactic(auto)]
+//! Highlights a source: each kind of token has its mark, `kind:text`.
 
 use anyhow::Result;
 use fancy_regex::{Error, RegexInput, RegexSet, RuntimeError};
 use std::alloc::Global;
+use std::fs;
+use std::rt::Files;
 
 /// The names of the kinds, in the order of the patterns.
 const KINDS: [&str; 6] = ["keyword", "name", "number", "string", "comment", "other"];
@@ -51,10 +52,12 @@ fn highlight(rt: &impl Print, kinds: &RegexSet, line: &str) -> Result<()> {
     Ok(())
 }
 
-fn main(rt: HostRuntime) -> Result<()> {
+/// Highlights the lines of a file.
+pub(crate) fn highlight_file(rt: &(impl Print + Files + AllocGlobal), path: &str) -> Result<()> {
+    let source = fs::read_to_string(rt, path)?;
     let kinds = kinds(rt.alloc())?;
-    for line in rt.lines(rt.alloc()) {
-        highlight(&rt, &kinds, line?.as_str())?;
+    for line in source.as_str().lines() {
+        highlight(rt, &kinds, line)?;
     }
     Ok(())
 }

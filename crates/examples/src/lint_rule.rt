@@ -1,10 +1,9 @@
-//! A lint rule: a word that stands twice in a row, told with its line and column. The status is 1 where there is one.
-#![tactic(auto)]
+//! A lint rule: a word that stands twice in a row, told with its line and column.
 
 use anyhow::Result;
 use fancy_regex::{LineIndex, Regex};
-use std::io::{BufReader, Input, Read};
-use std::process::ExitCode;
+use std::fs;
+use std::rt::Files;
 
 /// Prints where a word stands twice in a row. How many places there are.
 fn check(rt: &(impl Print + AllocGlobal), text: &[u8]) -> Result<usize> {
@@ -22,9 +21,8 @@ fn check(rt: &(impl Print + AllocGlobal), text: &[u8]) -> Result<usize> {
     Ok(count)
 }
 
-fn main(rt: HostRuntime) -> Result<ExitCode> {
-    let mut text = Vec::new(rt.alloc());
-    BufReader::new(rt.alloc(), rt.reader())?.read_to_end(&mut text)?;
-    let count = check(&rt, &text)?;
-    Ok(ExitCode::from(u8::from(count > 0)))
+/// Checks a file. How many places there are.
+pub(crate) fn check_file(rt: &(impl Print + Files + AllocGlobal), path: &str) -> Result<usize> {
+    let text = fs::read_to_string(rt, path)?;
+    check(rt, text.as_str().as_bytes())
 }

@@ -1,0 +1,18 @@
+//! Four examples to copy from, each a module, run over the files of `data`. The status is 1 where the lint rule finds a place.
+#![tactic(auto)]
+
+mod highlighter;
+mod lint_rule;
+mod log_masker;
+mod pre_tokeniser;
+
+use anyhow::Result;
+use std::process::ExitCode;
+
+fn main(rt: HostRuntime) -> Result<ExitCode> {
+    highlighter::highlight_file(&rt, "source.txt")?;
+    log_masker::mask_file(&rt, "mail.log")?;
+    pre_tokeniser::cut_file(&rt, "questions.txt")?;
+    let count = lint_rule::check_file(&rt, "prose.txt")?;
+    Ok(ExitCode::from(u8::from(count > 0)))
+}
