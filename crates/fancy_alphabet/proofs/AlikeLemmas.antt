@@ -225,6 +225,7 @@ pub classes_are : (code : List Instruction) (stands : List ℕ) (classes : Class
     → ((byte : ℕ) → byte < 128 → member_for classes byte ≡ get_or stands byte 0) → AreClasses classes code
 classes_are code stands classes told characters members sides low = record {
   tests = told;
+  sides = λ byte lt. sides byte lt ∙ ap (λ (b : ℕ). seen_as classes.tests (side_of b)) (sym (low byte lt));
   members = λ before byte lt q.
       alike_by before (seen_as classes.tests (side_of byte)) (seen_as classes.tests (side_of (get_or stands byte 0))) (instr_at code q) byte (get_or stands byte 0)
       (sides byte lt) (λ c next e. characters q c next e byte lt) (λ edges next e. members q next edges e byte lt)

@@ -15,6 +15,11 @@ number_low side.CarriageReturn = omega arith
 number_low side.Edge = omega arith
 number_low side.Hidden = omega arith
 
+pub sides_low : (t : Tests) → sides_of t ≤ 6
+sides_low tests.Nothing = omega arith
+sides_low tests.Words = omega arith
+sides_low tests.All = omega arith
+
 pub seen_low : (t : Tests) (s : Side) → number_of (seen_as t s) < sides_of t
 seen_low tests.Nothing s = omega arith
 seen_low tests.Words side.Other = omega arith

@@ -6,7 +6,6 @@ use Rattle.fancy_alphabet.specs.Alike.{IsAlike, ascii_seen}
 use Rattle.fancy_alphabet.specs.Sides.{AreToldBy, IsBefore, number_of, seen_as, side_of, sides_of}
 use Rattle.fancy_alphabet.specs.Sights.{ascii, seen_in}
 use Rattle.fancy_alphabet.specs.declared.classes.Classes.{Classes}
-use Rattle.fancy_alphabet.specs.declared.classes.Column.{Column}
 use Rattle.fancy_alphabet.specs.declared.side.Side.{Side}
 use Rattle.fancy_alphabet.specs.declared.sight.Sight.{Sight}
 
@@ -14,19 +13,23 @@ use Rattle.fancy_alphabet.specs.declared.sight.Sight.{Sight}
 abbrev pub first_of : Classes → Side → ℕ
 first_of classes side = number_of side * length classes.members.items
 
--- the first column of what is told apart of what stands before a place
-abbrev pub IsFirst : Context → ℕ → Classes → ℕ → Type 0
-IsFirst x p classes first = (s : Side) × IsBefore x p s × (first ≡ first_of classes (seen_as classes.tests s))
+-- where the columns begin of a row of the table, after a side
+abbrev pub row_start : Classes → ℕ → Side → ℕ
+row_start classes row side = row * classes.width + first_of classes side
+
+-- where those of a row begin for what is told apart of what stands before a place
+abbrev pub IsStart : Context → ℕ → Classes → ℕ → ℕ → Type 0
+IsStart x p classes row start = (s : Side) × IsBefore x p s × (start ≡ row_start classes row (seen_as classes.tests s))
 
 -- the character that stands for a class
 abbrev pub member_of : Classes → ℕ → ℕ
 member_of classes class = get_or classes.members.items class 0
 
-abbrev pub member_in : List ℕ → Option Column → ℕ → ℕ
+abbrev pub member_in : List ℕ → Option ℕ → ℕ → ℕ
 member_in members None byte = byte
-member_in members (Some c) byte = get_or members c.class 0
+member_in members (Some class) byte = get_or members class 0
 
-abbrev pub member_or : Classes → Option Column → ℕ → ℕ
+abbrev pub member_or : Classes → Option ℕ → ℕ → ℕ
 member_or classes o byte = member_in classes.members.items o byte
 
 -- the character that stands for one: itself where it has no class
@@ -51,7 +54,10 @@ pub record IsColumn (classes : Classes) (s : Sight) (k : ℕ) : Type 0 where
   pub column : k ≡ first_of classes s.before + class
 
 -- The code treats each character of a class as it treats the one that stands for it, and tells no more apart beside a place.
+-- Both are the same beside a place.
 pub record AreClasses (classes : Classes) (code : List Instruction) : Type 0 where
   pub tests : AreToldBy classes.tests code
+  pub sides : (byte : ℕ) → byte < 128
+      → seen_as classes.tests (side_of byte) ≡ seen_as classes.tests (side_of (member_for classes byte))
   pub members : (before : Side) (byte : ℕ) → byte < 128
       → IsAlike code (ascii_seen before (seen_as classes.tests (side_of byte)) byte) (seen_in (sight_for classes before byte))

@@ -2,8 +2,8 @@
 //! the same sets. For each of them one stands. At first that is the same for all that no instruction tests for; then each
 //! set tells its members from the others.
 
-ghost use Rattle.fancy_alphabet.specs.Sides.{number_of, seen_as, side_of};
-ghost use Rattle.std.specs.Prelude.{◌≡◌, ◌+◌, ◌*◌, ◌<◌, ◌≤◌, ◌⊎◌, ◌↔◌, ℕ, Bool, false, true, IfOk, OnOk, List, Some, get_or, length, slice_get};
+ghost use Rattle.fancy_alphabet.specs.Sides.{side_of};
+ghost use Rattle.std.specs.Prelude.{◌≡◌, ◌+◌, ◌<◌, ◌≤◌, ◌⊎◌, ◌↔◌, ℕ, Bool, false, true, IfOk, OnOk, List, get_or, length};
 ghost use Rattle.fancy_code.specs.Code.{instr_in, instrs_of, set_edges, sets_len};
 ghost use Rattle.fancy_code.specs.Instructions.{Character, Member, edges_in};
 ghost use Rattle.fancy_code.specs.Run.{instr_at};
@@ -11,7 +11,7 @@ ghost use Rattle.fancy_alphabet.specs.Alike.{AreSeen, AreSided, AreStanding, IsA
 ghost use Rattle.fancy_alphabet.specs.Classes.{AreClasses, member_for};
 ghost use Rattle.std.specs.Option.{ForSome};
 
-use crate::classes::{Classes, Column};
+use crate::classes::Classes;
 use crate::side::{Side, Tests};
 use fancy_code::code::{Code, Instr};
 use fancy_tree::char_set::CharSet;
@@ -306,34 +306,6 @@ fn class_of(numbers: &[u8], members: &mut Vec<u8>, member: u8) -> Result<u8, All
     Ok(class)
 }
 
-/// The columns of characters that are of these classes, `count` in all.
-fn columns_of(
-    alloc: Global,
-    tests: Tests,
-    numbers: &[u8],
-    count: usize,
-) -> Result<Vec<Column>, AllocError>
-    requires ascii { length numbers.now ≤ 128 }
-    requires few { count ≤ 128 }
-    ensures size { IfOk result (λ columns. length columns.items ≡ length numbers.now) }
-    ensures classes { IfOk result (λ columns. (byte : ℕ) (c : Column)
-        → slice_get columns.items byte ≡ Some c
-        → slice_get numbers.now byte ≡ Some c.class) }
-    ensures follows { IfOk result (λ columns. (byte : ℕ) (c : Column)
-        → slice_get columns.items byte ≡ Some c
-        → c.following ≡ number_of (seen_as tests (side_of byte)) * count) }
-{
-    let mut columns = Vec::with_capacity(alloc, numbers.len())?;
-    for byte in 0..numbers.len() {
-        let side = tests.sees(Side::of_byte(byte as u8));
-        columns.push(Column {
-            class: numbers[byte],
-            following: (side.number() * count) as u16,
-        })?;
-    }
-    Ok(columns)
-}
-
 /// The classes of those that one character stands for.
 fn numbered(alloc: Global, tests: Tests, stands: &[u8]) -> Result<Classes, AllocError>
     requires { length stands.now ≡ 128 }
@@ -343,13 +315,12 @@ fn numbered(alloc: Global, tests: Tests, stands: &[u8]) -> Result<Classes, Alloc
     ensures past { IfOk result (λ classes. (byte : ℕ) → 128 ≤ byte
         → member_for classes byte ≡ byte) }
 {
-    let mut numbers = Vec::with_capacity(alloc, ASCII)?;
+    let mut columns = Vec::with_capacity(alloc, ASCII)?;
     let mut members = Vec::new(alloc);
     for byte in 0..ASCII {
-        let class = class_of(&numbers, &mut members, stands[byte])?;
-        numbers.push(class)?;
+        let class = class_of(&columns, &mut members, stands[byte])?;
+        columns.push(class)?;
     }
-    let columns = columns_of(alloc, tests, &numbers, members.len())?;
     let width = tests.sides() * members.len();
     Ok(Classes {
         tests,

@@ -1,22 +1,12 @@
 //! Classes of ASCII characters, each of which one character stands for.
 
 ghost use Rattle.std.specs.Prelude.{◌≡◌, ◌*◌, ◌<◌, ◌≤◌, ℕ, IfSome, Some, length, slice_get};
-ghost use Rattle.fancy_alphabet.specs.Sides.{number_of, seen_as, side_of, sides_of};
-ghost use Rattle.fancy_alphabet.specs.declared.classes.Column.{Column};
+ghost use Rattle.fancy_alphabet.specs.Sides.{seen_as, side_of, sides_of};
 
 use crate::side::{Side, Tests};
 use crate::sight::Sight;
 use fancy_code::reading::Reading;
 use std::alloc::Global;
-
-/// Where the table has an ASCII character.
-#[derive(Clone, Copy, PartialEq, Eq, Debug)]
-pub struct Column {
-    /// The number of its class, which is its column among those of what stands before it.
-    pub class: u8,
-    /// The first column of what follows the character.
-    pub following: u16,
-}
 
 /// Classes of ASCII characters, by numbers, and what is told apart of the sides of a place. A table has a column for each class
 /// and side.
@@ -24,24 +14,22 @@ pub struct Column {
 pub struct Classes {
     /// Which sides of a place are told apart.
     pub tests: Tests,
-    /// The column of each character, if it has one.
-    pub columns: Vec<Column>,
+    /// The number of the class of each character, if it has one: its column among those of what stands before it.
+    pub columns: Vec<u8>,
     /// The character that stands for each class.
     pub members: Vec<u8>,
     /// How many columns there are.
     pub width: usize,
     ghost ascii: { length columns.items ≤ 128 },
     ghost few: { length members.items ≤ 128 },
-    ghost known: { (byte : ℕ) (c : Column) → slice_get columns.items byte ≡ Some c
-        → c.class < length members.items },
-    ghost follows: { (byte : ℕ) (c : Column) → slice_get columns.items byte ≡ Some c
-        → c.following ≡ number_of (seen_as tests (side_of byte)) * length members.items },
+    ghost known: { (byte class : ℕ) → slice_get columns.items byte ≡ Some class
+        → class < length members.items },
     ghost wide: { width ≡ sides_of tests * length members.items },
 }
 
 impl Classes {
     ghost use Rattle.std.specs.Prelude.{[]};
-    ghost use Rattle.fancy_alphabet.specs.Classes.{IsColumn, first_of, member_for, sight_for};
+    ghost use Rattle.fancy_alphabet.specs.Classes.{IsColumn, first_of, member_for, row_start, sight_for};
 
     /// No character has a class, and all sides are told apart.
     pub fn new(alloc: Global) -> Classes
@@ -67,7 +55,7 @@ impl Classes {
 
     /// The column of a character, if it has one.
     #[inline(always)]
-    pub fn column(&self, byte: u8) -> Option<Column>
+    pub fn column(&self, byte: u8) -> Option<u8>
         ensures { result ≡ slice_get self.now.columns.items byte }
     {
         self.columns.get(byte as usize).copied()
@@ -80,13 +68,24 @@ impl Classes {
         side.number() * self.members.len()
     }
 
+    /// Where the columns begin of a row of the table, after a side that is told apart.
+    #[inline(always)]
+    pub fn start(&self, row: usize, side: Side) -> u32
+        requires { row < 65_536 }
+        ensures { result ≡ row_start self.now row side }
+    {
+        let start = row * self.width;
+        let first = self.first(side);
+        (start + first) as u32
+    }
+
     /// The character that stands for one: itself where it has no class.
     pub fn member(&self, byte: u8) -> u8
         ensures { result ≡ member_for self.now byte }
     {
         match self.column(byte) {
             None => byte,
-            Some(column) => self.members[column.class as usize],
+            Some(column) => self.members[column as usize],
         }
     }
 
@@ -124,6 +123,6 @@ impl Classes {
         if sight.before.number() >= self.tests.sides() {
             return None;
         }
-        Some(self.first(sight.before) + column.class as usize)
+        Some(self.first(sight.before) + column as usize)
     }
 }

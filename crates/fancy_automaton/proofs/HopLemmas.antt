@@ -5,7 +5,8 @@ use Rattle.std.specs.Global.{Vec}
 use Rattle.std.proofs.lemmas.Option.{slice_get_cases}
 use Rattle.fancy_input.specs.declared.span.Span.{Span}
 use Rattle.fancy_code.specs.declared.attempt.Attempt.{Attempt}
-use Rattle.fancy_code.specs.Attempt.{context_in, may_end_in}
+use Rattle.fancy_code.specs.Attempt.{context_in, instrs_in, may_end_in}
+use Rattle.fancy_code.specs.Context.{Context}
 use Rattle.fancy_input.specs.Lines.{byte_before}
 use Rattle.fancy_code.proofs.ReadingLemmas.{low_unit}
 use Rattle.fancy_automaton.specs.declared.cells.Cell.{Cell}
@@ -15,11 +16,9 @@ use Rattle.fancy_automaton.specs.declared.trail.Hit.{Hit}
 use Rattle.fancy_automaton.specs.declared.trail.Visit.{Visit}
 use Rattle.fancy_automaton.specs.declared.transitions.Transition.{Transition}
 use Rattle.fancy_automaton.specs.Cells.{row_if}
-use Rattle.fancy_alphabet.specs.Classes.{IsFirst, first_of, sight_for}
-use Rattle.fancy_alphabet.specs.Sides.{number_of, seen_as, side_of, sides_of}
+use Rattle.fancy_alphabet.specs.Classes.{AreClasses, IsStart, member_for, row_start, sight_for}
+use Rattle.fancy_alphabet.specs.Sides.{seen_as, side_of}
 use Rattle.fancy_alphabet.specs.declared.classes.Classes.{Classes}
-use Rattle.fancy_alphabet.specs.declared.classes.Column.{Column}
-use Rattle.fancy_alphabet.specs.declared.side.Side.{Side}
 use Rattle.fancy_automaton.specs.Front.{IsFront, found_of}
 use Rattle.fancy_automaton.specs.Search.{Steady, begun_if}
 use Rattle.fancy_automaton.specs.Trail.{hit_or, and_start}
@@ -27,7 +26,6 @@ use Rattle.fancy_automaton.specs.Transitions.{IsTransition}
 use Rattle.fancy_automaton.proofs.FrontLemmas.{front_advanced}
 use Rattle.fancy_automaton.proofs.CellLemmas.{get_within}
 use Rattle.fancy_alphabet.proofs.SideLemmas.{low_side_before}
-use Rattle.fancy_alphabet.proofs.NumberLemmas.{seen_low}
 use Rattle.fancy_alphabet.proofs.SightLemmas.{like_ascii}
 
 -- after an ASCII character a match may begin and end too
@@ -35,51 +33,49 @@ pub ascii_leads : (a : Attempt) (p byte : ℕ) → p < a.last → byte < 128 →
 ascii_leads a p byte before low here steady good =
     (steady p (record { code = byte; width = 1 }) (omega (arith, before)) good (low_unit a.code.now.meaning a.haystack.now p byte low here)).1
 
--- what follows an ASCII character begins at the column that is told
-pub first_after : (a : Attempt) (classes : Classes) (p byte : ℕ) (c : Column) → byte < 128 → slice_get a.haystack.now p ≡ Some byte → slice_get classes.columns.items byte ≡ Some c
-    → IsFirst (context_in a) (p + 1) classes c.following
-first_after a classes p byte c low here there =
-    let next : p + 1 ≡ suc p = omega arith in
-    (side_of byte, low_side_before (context_in a) (p + 1) byte low (ap (byte_before a.haystack.now) next ∙ here), classes.follows byte c there)
+-- where the columns of a row begin after an ASCII character
+pub start_after : (a : Attempt) (classes : Classes) (p byte row start : ℕ) → AreClasses classes (instrs_in a) → byte < 128 → slice_get a.haystack.now p ≡ Some byte
+    → start ≡ row_start classes row (seen_as classes.tests (side_of (member_for classes byte))) → IsStart (context_in a) (p + 1) classes row start
+start_after a classes p byte row start are low here is =
+    let next : p + 1 ≡ suc p = omega arith in (
+      side_of byte,
+      low_side_before (context_in a) (p + 1) byte low (ap (byte_before a.haystack.now) next ∙ here),
+      is ∙ ap (row_start classes row) (sym (are.sides byte low)),
+    )
 
--- where the entries begin of the row of a place
-pub row_spread : (found : Option Span) (n b w ahead opened : ℕ) → ahead ≡ n * w → opened ≡ b * w → row_if found ahead opened ≡ row_if found n b * w
-row_spread None n b w ahead opened next begun = begun
-row_spread (Some s) n b w ahead opened next begun = next
-
-pub row_below : (found : Option Span) (ahead opened bound : ℕ) → ahead < bound → opened < bound → row_if found ahead opened < bound
-row_below None ahead opened bound next begun = begun
-row_below (Some s) ahead opened bound next begun = next
+-- where those of the row of a place begin
+pub row_starts : (x : Context) (p : ℕ) (classes : Classes) (found : Option Span) (next begun ahead opened : ℕ) → IsStart x p classes next ahead → IsStart x p classes begun opened
+    → IsStart x p classes (row_if found next begun) (row_if found ahead opened)
+row_starts x p classes None next begun ahead opened waits opens = opens
+row_starts x p classes (Some s) next begun ahead opened waits opens = waits
 
 -- what has a column is an ASCII character
-pub column_low : (classes : Classes) (byte : ℕ) (c : Column) → slice_get classes.columns.items byte ≡ Some c → byte < 128
+pub column_low : (classes : Classes) (byte c : ℕ) → slice_get classes.columns.items byte ≡ Some c → byte < 128
 column_low classes byte c there =
     let within = get_within classes.columns.items byte c there in
     omega (arith, within, classes.ascii)
 
 -- a step that the table tells
-pub front_hopped : (a : Attempt) (cells : Cells) (f : Front) (p row byte first : ℕ) (c : Column) (t : Transition) (start : Option ℕ) (visits : Vec Visit) (hit : Option Hit)
+pub front_hopped : (a : Attempt) (cells : Cells) (f : Front) (p row byte at c : ℕ) (t : Transition) (start : Option ℕ) (visits : Vec Visit) (hit : Option Hit)
     → p < a.last → slice_get a.haystack.now p ≡ Some byte → slice_get cells.table.classes.columns.items byte ≡ Some c → may_end_in a p ≡ true → IsFront a cells f p p
-    → IsFirst (context_in a) p cells.table.classes first → row ≡ row_if (found_of cells f) f.next f.begun
-    → ((before : Side) → number_of before < sides_of cells.table.classes.tests → first ≡ first_of cells.table.classes before
-    → IsTransition cells.cells.items row (sight_for cells.table.classes before byte) t)
+    → (begins : IsStart (context_in a) p cells.table.classes row at) → row ≡ row_if (found_of cells f) f.next f.begun
+    → IsTransition cells.table.classes cells.cells.items row (sight_for cells.table.classes (seen_as cells.table.classes.tests begins.0) byte) t
     → ((ss : List ℕ) → and_start start ss ≡ begun_if (found_of cells f) ss p)
     → visits.items ≡ f.trail.visits.items ++ record { cell = t.cell; start = start } ∷ []
     → ((d : Cell) → slice_get cells.cells.items t.cell ≡ Some d → hit ≡ hit_or f.hit d.matched (length f.trail.visits.items) p)
     → IsFront a cells (record { next = t.next; begun = t.begun; trail = record { base = f.trail.base; visits = visits }; hit = hit }) (p + 1) (p + 1)
-front_hopped a cells f p row byte first c t start visits hit before here column good is begins rowed tells starts more found =
+front_hopped a cells f p row byte at c t start visits hit before here column good is begins rowed told starts more found =
     let classes = cells.table.classes in
     let side = seen_as classes.tests begins.0 in
-    let told = tells side (seen_low classes.tests begins.0) begins.2 in
     let like = like_ascii a p classes is.all.1 begins.0 byte begins.1 (column_low classes byte c column) before here in
     elim (slice_get_cases cells.cells.items t.cell).1 [
       | inr past ↦ absurd (omega (arith, past.0, told.stands))
       | inl there ↦ (
           let d = there.0 in
-          let at : slice_get cells.cells.items t.cell ≡ Some d = there.2 in
+          let stood : slice_get cells.cells.items t.cell ≡ Some d = there.2 in
           let moved = front_advanced a cells cells f p row (sight_for classes side byte) t.cell d start visits hit (p + 1)
           (omega (arith, before)) good is rowed like (record { bounded = is.kept; all = is.all }) (λ r v e. e) (λ k x e. e)
-          (d, at, told.from d at, told.on d at) (sym there.3) starts more (found d at) refl in
-          subst (λ (n : ℕ). IsFront a cells (record { next = n; begun = t.begun; trail = record { base = f.trail.base; visits = visits }; hit = hit }) (p + 1) (p + 1)) (told.next d at)
-          (subst (λ (n : ℕ). IsFront a cells (record { next = d.next; begun = n; trail = record { base = f.trail.base; visits = visits }; hit = hit }) (p + 1) (p + 1)) (told.begun d at) moved))
+          (d, stood, told.from d stood, told.on d stood) (sym there.3) starts more (found d stood) refl in
+          subst (λ (n : ℕ). IsFront a cells (record { next = n; begun = t.begun; trail = record { base = f.trail.base; visits = visits }; hit = hit }) (p + 1) (p + 1)) (told.next d stood)
+          (subst (λ (n : ℕ). IsFront a cells (record { next = d.next; begun = n; trail = record { base = f.trail.base; visits = visits }; hit = hit }) (p + 1) (p + 1)) (told.begun d stood) moved))
     ]

@@ -11,11 +11,10 @@ use Rattle.std.proofs.lemmas.Option.{get_or_from_slice_get, slice_get-get_or, sl
 use Rattle.fancy_input.specs.declared.span.Span.{Span}
 use Rattle.fancy_code.specs.declared.attempt.Attempt.{Attempt}
 use Rattle.fancy_code.specs.Attempt.{context_in, instrs_in, may_end_in}
-use Rattle.fancy_alphabet.specs.Classes.{IsFirst, sight_for}
+use Rattle.fancy_alphabet.specs.Classes.{IsStart, sight_for}
 use Rattle.fancy_alphabet.specs.Sides.{seen_as}
 use Rattle.fancy_alphabet.specs.Sights.{seen_in}
 use Rattle.fancy_alphabet.specs.Units.{place_after}
-use Rattle.fancy_alphabet.specs.declared.classes.Column.{Column}
 use Rattle.fancy_alphabet.specs.declared.side.Side.{Side}
 use Rattle.fancy_alphabet.specs.declared.sight.Sight.{Sight}
 use Rattle.fancy_alphabet.proofs.SightLemmas.{like_ascii}
@@ -44,22 +43,22 @@ use Rattle.fancy_automaton.specs.declared.transitions.View.{View}
 use Rattle.fancy_automaton.specs.Ways.{match_end}
 use Rattle.fancy_automaton.proofs.CellLemmas.{cell_is, row_here, row_holds, row_ways}
 use Rattle.fancy_automaton.proofs.GoingLemmas.{going_same, going_step}
-use Rattle.fancy_automaton.proofs.HopLemmas.{ascii_leads, column_low, first_after}
+use Rattle.fancy_automaton.proofs.HopLemmas.{ascii_leads, column_low, start_after}
 use Rattle.fancy_automaton.proofs.SearchLemmas.{no_items}
 use Rattle.fancy_automaton.proofs.StepLemmas.{step_alike}
 
 -- The ways after a step, and where the search stands then.
-pub record Stepped (a : Attempt) (cells : Cells) (at : Stand) (ways starts : List ℕ) (found after : Option Span) (c : Column) (t : Transition) (matched : Option ℕ) : Type 0 where
+pub record Stepped (a : Attempt) (cells : Cells) (at : Stand) (ways starts : List ℕ) (found after : Option Span) (t : Transition) (matched : Option ℕ) : Type 0 where
   pub next : List Way
   pub come : ComeFrom t.origin (length (begun_if found ways a.code.now.start)) (map from_of next) matched
-  pub stands : IsAt a cells (stood at c t) (map at_of next) (map (start_in (begun_if found starts at.place)) next) after
+  pub stands : IsAt a cells (stood at t) (map at_of next) (map (start_in (begun_if found starts at.place)) next) after
 
 -- a step that the table tells
 module _ (a : Attempt) (cells : Cells) (at : Stand) (ways starts : List ℕ) (found : Option Span)
-    (row byte : ℕ) (c : Column) (t : Transition) (d : Cell)
+    (row byte c : ℕ) (t : Transition) (d : Cell)
     (before : at.place < a.last) (here : slice_get a.haystack.now at.place ≡ Some byte) (column : slice_get cells.table.classes.columns.items byte ≡ Some c)
     (is : IsAt a cells at ways starts found) (rowed : row ≡ row_if found at.next at.begun)
-    (told : IsTransition cells.cells.items row (sight_for cells.table.classes (seen_as cells.table.classes.tests is.begins.0) byte) t)
+    (told : IsTransition cells.table.classes cells.cells.items row (sight_for cells.table.classes (seen_as cells.table.classes.tests is.begins.0) byte) t)
     (there : slice_get cells.cells.items t.cell ≡ Some d) where
   abbrev asked : Sight
   asked = sight_for cells.table.classes (seen_as cells.table.classes.tests is.begins.0) byte
@@ -85,7 +84,7 @@ module _ (a : Attempt) (cells : Cells) (at : Stand) (ways starts : List ℕ) (fo
       (subst (λ (ws : List ℕ). ComeFrom d.origin (length ws) d.came.items d.matched) same own.comes_from))
 
   pub stepped : (after : Option Span) → ((rest : Option (ℕ × ℕ)) → found_or after rest ≡ option_or (span_by (begun_if found starts at.place) (match_end d.matched at.place)) (found_or found rest))
-      → Stepped a cells at ways starts found after c t d.matched
+      → Stepped a cells at ways starts found after t d.matched
   stepped after hits =
       let classes = cells.table.classes in
       let rows = cells.rows.lists.items in
@@ -106,16 +105,16 @@ module _ (a : Attempt) (cells : Cells) (at : Stand) (ways starts : List ℕ) (fo
           waits = subst (λ (n : ℕ). HasRow rows n (map at_of own.after)) (told.next d there) own.leads;
           opens = subst (λ (n : ℕ). HasRow rows n (map at_of own.after ++ a.code.now.start ∷ [])) (told.begun d there) own.opens;
           going = going_same a _ _ _ _ after after (p + 1) _ (p + 1) refl refl refl width moved;
-          begins = first_after a classes p byte c low here column;
+          begins = start_after a classes p byte t.begun t.opened is.all.1 low here told.opened;
           good = ascii_leads a p byte before low here is.followed.steady is.good;
           within = omega (arith, before);
         };
       }
 
-  pub quiet : d.matched ≡ None → Stepped a cells at ways starts found found c t d.matched
+  pub quiet : d.matched ≡ None → Stepped a cells at ways starts found found t d.matched
   quiet none = stepped found (λ rest. ap (λ (o : Option ℕ). option_or (span_by (begun_if found starts at.place) (match_end o at.place)) (found_or found rest)) (sym none))
 
-  pub matching : (f s : ℕ) → d.matched ≡ Some f → slice_index (begun_if found starts at.place) f ≡ s → Stepped a cells at ways starts found (Some (record { start = s; end = at.place })) c t d.matched
+  pub matching : (f s : ℕ) → d.matched ≡ Some f → slice_index (begun_if found starts at.place) f ≡ s → Stepped a cells at ways starts found (Some (record { start = s; end = at.place })) t d.matched
   matching f s some began =
       stepped (Some (record { start = s; end = at.place })) (λ rest. ap (λ (x : ℕ). Some (x, at.place)) (sym began)
       ∙ ap (λ (o : Option ℕ). option_or (span_by (begun_if found starts at.place) (match_end o at.place)) (found_or found rest)) (sym some))
@@ -128,10 +127,10 @@ equal f n e = grind (arith, nat_tests)
 
 -- of which way a match comes that is found
 module _ (a : Attempt) (cells : Cells) (at : Stand) (ways starts : List ℕ) (found : Option Span)
-    (row byte : ℕ) (c : Column) (t : Transition) (d : Cell)
+    (row byte c : ℕ) (t : Transition) (d : Cell)
     (before : at.place < a.last) (here : slice_get a.haystack.now at.place ≡ Some byte) (column : slice_get cells.table.classes.columns.items byte ≡ Some c)
     (is : IsAt a cells at ways starts found) (rowed : row ≡ row_if found at.next at.begun)
-    (told : IsTransition cells.cells.items row (sight_for cells.table.classes (seen_as cells.table.classes.tests is.begins.0) byte) t)
+    (told : IsTransition cells.table.classes cells.cells.items row (sight_for cells.table.classes (seen_as cells.table.classes.tests is.begins.0) byte) t)
     (there : slice_get cells.cells.items t.cell ≡ Some d) where
   abbrev many : ℕ
   many = length (begun_if found ways a.code.now.start)
@@ -192,24 +191,24 @@ last_began ways starts start p f even e =
     index_last starts p f (omega (arith, even, e, more))
 
 -- what all ways began at, and a match that is found
-module _ (a : Attempt) (cells : Cells) (at : Stand) (ways : List ℕ) (s : ℕ) (after : Option Span) (c : Column) (t : Transition) (matched : Option ℕ) where
+module _ (a : Attempt) (cells : Cells) (at : Stand) (ways : List ℕ) (s : ℕ) (after : Option Span) (t : Transition) (matched : Option ℕ) where
   abbrev Sole_at : ℕ → Type 0
-  Sole_at p = (next : List ℕ) × IsAt a cells (stood at c t) next (replicate (length next) p) after
+  Sole_at p = (next : List ℕ) × IsAt a cells (stood at t) next (replicate (length next) p) after
 
-  pub keeps_start : Stepped a cells at ways (replicate (length ways) s) None after c t matched → t.origin ≡ Earlier → Sole_at s
+  pub keeps_start : Stepped a cells at ways (replicate (length ways) s) None after t matched → t.origin ≡ Earlier → Sole_at s
   keeps_start st e =
       let come : ComeFrom Earlier (length (ways ++ a.code.now.start ∷ [])) (map from_of st.next) matched = subst (λ (o : Origin). ComeFrom o (length (ways ++ a.code.now.start ∷ [])) (map from_of st.next) matched) e st.come in (
         map at_of st.next,
-        subst (λ (ss : List ℕ). IsAt a cells (stood at c t) (map at_of st.next) ss after)
+        subst (λ (ss : List ℕ). IsAt a cells (stood at t) (map at_of st.next) ss after)
             (began_at_one (replicate (length ways) s ++ at.place ∷ []) s (λ f. nat_lt f (length (ways ++ a.code.now.start ∷ []) - 1)) st.next
             (λ f lt. earlier_began ways a.code.now.start s at.place f (below f _ lt)) come.0) st.stands,
       )
 
-  pub starts_here : (starts : List ℕ) → length starts ≡ length ways → Stepped a cells at ways starts None after c t matched → t.origin ≡ Last → Sole_at at.place
+  pub starts_here : (starts : List ℕ) → length starts ≡ length ways → Stepped a cells at ways starts None after t matched → t.origin ≡ Last → Sole_at at.place
   starts_here starts even st e =
       let come : ComeFrom Last (length (ways ++ a.code.now.start ∷ [])) (map from_of st.next) matched = subst (λ (o : Origin). ComeFrom o (length (ways ++ a.code.now.start ∷ [])) (map from_of st.next) matched) e st.come in (
         map at_of st.next,
-        subst (λ (ss : List ℕ). IsAt a cells (stood at c t) (map at_of st.next) ss after)
+        subst (λ (ss : List ℕ). IsAt a cells (stood at t) (map at_of st.next) ss after)
             (began_at_one (starts ++ at.place ∷ []) at.place (λ f. nat_eq f (length (ways ++ a.code.now.start ∷ []) - 1)) st.next
             (λ f same. last_began ways starts a.code.now.start at.place f even (equal f _ same)) come.1) st.stands,
       )
@@ -226,42 +225,42 @@ some_of None e = absurd (cc)
 some_of (Some f) e = (f, refl)
 
 -- an ASCII character is read, and the table tells the step from the row on it
-pub record Reads (a : Attempt) (cells : Cells) (at : Stand) (row byte : ℕ) (c : Column) : Type 0 where
+pub record Reads (a : Attempt) (cells : Cells) (at : Stand) (row byte c : ℕ) : Type 0 where
   pub before : at.place < a.last
   pub here : slice_get a.haystack.now at.place ≡ Some byte
   pub column : slice_get cells.table.classes.columns.items byte ≡ Some c
 
-pub reads : (a : Attempt) (cells : Cells) (at : Stand) (v : View) (row : ℕ) (c : Column) → IsFollowed a → IsView cells.table v → at.place < a.last
+pub reads : (a : Attempt) (cells : Cells) (at : Stand) (v : View) (row c : ℕ) → IsFollowed a → IsView cells.table v → at.place < a.last
     → slice_get v.columns.now (get_or a.haystack.now at.place 0) ≡ Some c → Reads a cells at row (get_or a.haystack.now at.place 0) c
 reads a cells at v row c followed view before there = record {
   before = before;
   here = slice_get-get_or a.haystack.now at.place 0 (omega (arith, followed.inside, before));
-  column = ap (λ (cs : List Column). slice_get cs (get_or a.haystack.now at.place 0)) (sym view.0) ∙ there;
+  column = ap (λ (cs : List ℕ). slice_get cs (get_or a.haystack.now at.place 0)) (sym view.0) ∙ there;
 }
 
-module _ (a : Attempt) (cells : Cells) (at : Stand) (byte : ℕ) (c : Column) (t : Transition) where
+module _ (a : Attempt) (cells : Cells) (at : Stand) (byte c : ℕ) (t : Transition) where
   -- what the table has of the row on what is seen
   abbrev pub Tells : ℕ → Side → (List Cell → Transition → Type 0) → Type 0
-  Tells row before Also = IsTransition cells.cells.items row (sight_for cells.table.classes (seen_as cells.table.classes.tests before) byte) t × Also cells.cells.items t
+  Tells row before Also = IsTransition cells.table.classes cells.cells.items row (sight_for cells.table.classes (seen_as cells.table.classes.tests before) byte) t × Also cells.cells.items t
 
   -- nothing is found, and the ways after the step come from those that waited
   pub quiet_earlier : (ways : List ℕ) (s : ℕ) (is : IsAt a cells at ways (replicate (length ways) s) None) → Reads a cells at at.begun byte c → Tells at.begun is.begins.0 IsQuiet
-      → t.origin ≡ Earlier → (next : List ℕ) × IsAt a cells (stood at c t) next (replicate (length next) s) None
+      → t.origin ≡ Earlier → (next : List ℕ) × IsAt a cells (stood at t) next (replicate (length next) s) None
   quiet_earlier ways s is r told e =
       let there = cell_there cells.cells.items t.cell told.0.stands in
-      keeps_start a cells at ways s None c t there.0.matched
+      keeps_start a cells at ways s None t there.0.matched
       (quiet a cells at ways (replicate (length ways) s) None at.begun byte c t there.0 r.before r.here r.column is refl told.0 there.1 (told.1 there.0 there.1)) e
 
   -- or from the one that began
   pub quiet_last : (ways starts : List ℕ) (is : IsAt a cells at ways starts None) → Reads a cells at at.begun byte c → Tells at.begun is.begins.0 IsQuiet
-      → t.origin ≡ Last → (next : List ℕ) × IsAt a cells (stood at c t) next (replicate (length next) at.place) None
+      → t.origin ≡ Last → (next : List ℕ) × IsAt a cells (stood at t) next (replicate (length next) at.place) None
   quiet_last ways starts is r told e =
       let there = cell_there cells.cells.items t.cell told.0.stands in
-      starts_here a cells at ways 0 None c t there.0.matched starts is.going.even
+      starts_here a cells at ways 0 None t there.0.matched starts is.going.even
       (quiet a cells at ways starts None at.begun byte c t there.0 r.before r.here r.column is refl told.0 there.1 (told.1 there.0 there.1)) e
 
   -- or from both
-  pub quiet_amid : (ways starts : List ℕ) (is : IsAt a cells at ways starts None) → Reads a cells at at.begun byte c → Tells at.begun is.begins.0 IsQuiet → IsAmid a cells (stood at c t)
+  pub quiet_amid : (ways starts : List ℕ) (is : IsAt a cells at ways starts None) → Reads a cells at at.begun byte c → Tells at.begun is.begins.0 IsQuiet → IsAmid a cells (stood at t)
   quiet_amid ways starts is r told =
       let there = cell_there cells.cells.items t.cell told.0.stands in
       let st = quiet a cells at ways starts None at.begun byte c t there.0 r.before r.here r.column is refl told.0 there.1 (told.1 there.0 there.1) in
@@ -269,25 +268,25 @@ module _ (a : Attempt) (cells : Cells) (at : Stand) (byte : ℕ) (c : Column) (t
 
   -- a match is found
   pub found_earlier : (ways : List ℕ) (s : ℕ) (is : IsAt a cells at ways (replicate (length ways) s) None) → Reads a cells at at.begun byte c → Tells at.begun is.begins.0 IsMatching
-      → t.origin ≡ Earlier → (next : List ℕ) × IsAt a cells (stood at c t) next (replicate (length next) s) (Some (record { start = s; end = at.place }))
+      → t.origin ≡ Earlier → (next : List ℕ) × IsAt a cells (stood at t) next (replicate (length next) s) (Some (record { start = s; end = at.place }))
   found_earlier ways s is r told e =
       let there = cell_there cells.cells.items t.cell told.0.stands in
       let some = some_of there.0.matched (told.1 there.0 there.1) in
       let starts = replicate (length ways) s in
       let come = subst (λ (o : Option ℕ). IfSome o (λ f. f < length (ways ++ a.code.now.start ∷ []) - 1)) some.1
       (earlier_found a cells at ways starts None at.begun byte c t there.0 r.before r.here r.column is refl told.0 there.1 e) in
-      keeps_start a cells at ways s (Some (record { start = s; end = at.place })) c t there.0.matched
+      keeps_start a cells at ways s (Some (record { start = s; end = at.place })) t there.0.matched
       (matching a cells at ways starts None at.begun byte c t there.0 r.before r.here r.column is refl told.0 there.1 some.0 s some.1
       (earlier_began ways a.code.now.start s at.place some.0 come)) e
 
   pub found_last : (ways starts : List ℕ) (is : IsAt a cells at ways starts None) → Reads a cells at at.begun byte c → Tells at.begun is.begins.0 IsMatching
-      → t.origin ≡ Last → (next : List ℕ) × IsAt a cells (stood at c t) next (replicate (length next) at.place) (Some (record { start = at.place; end = at.place }))
+      → t.origin ≡ Last → (next : List ℕ) × IsAt a cells (stood at t) next (replicate (length next) at.place) (Some (record { start = at.place; end = at.place }))
   found_last ways starts is r told e =
       let there = cell_there cells.cells.items t.cell told.0.stands in
       let some = some_of there.0.matched (told.1 there.0 there.1) in
       let come = subst (λ (o : Option ℕ). IfSome o (λ f. f ≡ length (ways ++ a.code.now.start ∷ []) - 1)) some.1
       (last_found a cells at ways starts None at.begun byte c t there.0 r.before r.here r.column is refl told.0 there.1 e) in
-      starts_here a cells at ways 0 (Some (record { start = at.place; end = at.place })) c t there.0.matched starts is.going.even
+      starts_here a cells at ways 0 (Some (record { start = at.place; end = at.place })) t there.0.matched starts is.going.even
       (matching a cells at ways starts None at.begun byte c t there.0 r.before r.here r.column is refl told.0 there.1 some.0 at.place some.1
       (last_began ways starts a.code.now.start at.place some.0 is.going.even come)) e
 
@@ -330,7 +329,7 @@ sole_kept a cells later s keeps rows classes is =
         waits = subst (λ (rs : List (Vec ℕ)). HasRow rs s.stand.next is.0) (sym rows) at.waits;
         opens = subst (λ (rs : List (Vec ℕ)). HasRow rs s.stand.begun (is.0 ++ a.code.now.start ∷ [])) (sym rows) at.opens;
         going = at.going;
-        begins = subst (λ (k : Classes). IsFirst (context_in a) s.stand.place k s.stand.first) (sym classes) at.begins;
+        begins = subst (λ (k : Classes). IsStart (context_in a) s.stand.place k s.stand.begun s.stand.opened) (sym classes) at.begins;
         good = at.good;
         within = at.within;
       },
@@ -338,7 +337,7 @@ sole_kept a cells later s keeps rows classes is =
 
 -- a search all of whose ways began at one place
 pub sole_front : (a : Attempt) (cells : Cells) (f : Front) (at : Stand) (p s : ℕ) (end : Option ℕ) → Stands a cells f p → starts_of cells f ≡ replicate (length (starts_of cells f)) s → found_of cells f ≡ match_from s end
-    → at.place ≡ p → at.next ≡ f.next → at.begun ≡ f.begun → IsFirst (context_in a) p cells.table.classes at.first
+    → at.place ≡ p → at.next ≡ f.next → at.begun ≡ f.begun → IsStart (context_in a) p cells.table.classes at.begun at.opened
     → IsSole a cells (record { stand = at; start = s; end = end })
 sole_front a cells f at p s end stands one found place next begun begins =
     let is = stands.front in
@@ -353,7 +352,7 @@ sole_front a cells f at p s end stands one found place next begun begins =
         opens = subst (λ (r : ℕ). HasRow rows r (ways_of cells f ++ a.code.now.start ∷ [])) (sym begun) is.opens;
         going = subst (λ (q : ℕ). Going a (ways_of cells f) (replicate (length (ways_of cells f)) s) (match_from s end) q q) back
             (going_same a _ _ _ _ _ _ p p p refl (one ∙ ap (λ (n : ℕ). replicate n s) is.going.even) found refl is.going);
-        begins = subst (λ (q : ℕ). IsFirst (context_in a) q cells.table.classes at.first) back begins;
+        begins = subst (λ (q : ℕ). IsStart (context_in a) q cells.table.classes at.begun at.opened) back begins;
         good = subst (λ (q : ℕ). may_end_in a q ≡ true) back stands.good;
         within = omega (arith, place, stands.within);
       },

@@ -11,9 +11,8 @@ use Rattle.fancy_automaton.specs.declared.transitions.Entry.TheVariants.{Unknown
 use Rattle.fancy_automaton.specs.declared.transitions.Transitions.{Transitions}
 use Rattle.fancy_alphabet.specs.declared.classes.Classes.{Classes}
 use Rattle.std.proofs.lemmas.Nat.{div-mul-add}
-use Rattle.fancy_alphabet.specs.Classes.{IsColumn, first_of, member_of, member_or, sight_for, sight_of}
+use Rattle.fancy_alphabet.specs.Classes.{IsColumn, first_of, member_of, member_or, row_start, sight_for, sight_of}
 use Rattle.fancy_alphabet.specs.Sides.{number_of, sides_of}
-use Rattle.fancy_alphabet.specs.declared.classes.Column.{Column}
 use Rattle.fancy_alphabet.specs.declared.side.Side.{Side}
 use Rattle.fancy_alphabet.specs.declared.sight.Sight.{Sight}
 use Rattle.fancy_alphabet.proofs.NumberLemmas.{number_same}
@@ -24,7 +23,7 @@ use Rattle.fancy_alphabet.specs.Classes.{AreClasses}
 use Rattle.fancy_automaton.specs.declared.cells.Cells.{Cells}
 use Rattle.fancy_automaton.specs.Cells.{GrowsBy, HasPlace, HoldsFor, IsCell, IsFor, KeepsCells}
 use Rattle.fancy_automaton.proofs.CellLemmas.{cells_more, grown}
-use Rattle.fancy_automaton.specs.Transitions.{AreTold, IsEntry, IsSpread, IsTransition, entry_at}
+use Rattle.fancy_automaton.specs.Transitions.{AreTold, IsEntry, IsTransition, entry_at}
 
 other_part : (p q a b w : ℕ) → p ≡ q → p * w + a ≡ q * w + b → a ≡ b
 other_part p q a b w e f =
@@ -33,7 +32,7 @@ other_part p q a b w e f =
 
 -- what the table has of a row and a column
 pub told_entry : (cells : List Cell) (table : Transitions) (row column : ℕ) (sight : Sight) (e : Entry) → AreTold cells table → IsColumn table.classes sight column
-    → e ≡ entry_at table row column → IsEntry cells row sight e
+    → e ≡ entry_at table row column → IsEntry table.classes cells row sight e
 told_entry cells table row column sight Unknown told is e = tt
 told_entry cells table row column sight (Quiet t) told is e = told.quiet row column sight t is (sym e)
 told_entry cells table row column sight (Matching t) told is e = told.matching row column sight t is (sym e)
@@ -47,33 +46,25 @@ module _ (cells later : List Cell) (grown : KeepsCells cells later) (longer : le
         | inl here ↦ (let both : Some here.0 ≡ Some c = sym (grown k here.0 here.2) ∙ e in here.2 ∙ both)
       ]
 
-  more_transition : (row : ℕ) (sight : Sight) (t : Transition) → IsTransition cells row sight t → IsTransition later row sight t
-  more_transition row sight t is = record {
+  more_transition : (classes : Classes) (row : ℕ) (sight : Sight) (t : Transition) → IsTransition classes cells row sight t → IsTransition classes later row sight t
+  more_transition classes row sight t is = record {
     stands = omega (arith, is.stands, longer);
     from = λ c e. is.from c (stays t.cell is.stands c e);
     on = λ c e. is.on c (stays t.cell is.stands c e);
     next = λ c e. is.next c (stays t.cell is.stands c e);
     begun = λ c e. is.begun c (stays t.cell is.stands c e);
     origin = λ c e. is.origin c (stays t.cell is.stands c e);
+    ahead = is.ahead;
+    opened = is.opened;
   }
 
   pub told_more : (table : Transitions) → AreTold cells table → AreTold later table
   told_more table told = record {
     quiet = λ row column sight t is e.
-        (let q = told.quiet row column sight t is e in (more_transition row sight t q.0, λ c at. q.1 c (stays t.cell q.0.stands c at)));
+        (let q = told.quiet row column sight t is e in (more_transition table.classes row sight t q.0, λ c at. q.1 c (stays t.cell q.0.stands c at)));
     matching = λ row column sight t is e.
-        (let q = told.matching row column sight t is e in (more_transition row sight t q.0, λ c at. q.1 c (stays t.cell q.0.stands c at)));
-    quiet_spread = told.quiet_spread;
-    matching_spread = told.matching_spread;
+        (let q = told.matching row column sight t is e in (more_transition table.classes row sight t q.0, λ c at. q.1 c (stays t.cell q.0.stands c at)));
   }
-
--- where the entry at a place of the table leads
-pub spread_at : (cells : List Cell) (table : Transitions) (i : ℕ) → AreTold cells table → IsSpread table.classes.width (get_or table.entries.items i Unknown)
-spread_at cells table i told = at (get_or table.entries.items i Unknown) refl where
-  at : (e : Entry) → get_or table.entries.items i Unknown ≡ e → IsSpread table.classes.width e
-  at Unknown is = tt
-  at (Quiet t) is = told.quiet_spread i t is
-  at (Matching t) is = told.matching_spread i t is
 
 -- the column of what is seen is one of the table
 pub column_within : (classes : Classes) (sight : Sight) (column : ℕ) → IsColumn classes sight column → column < classes.width
@@ -102,54 +93,38 @@ entry_in entries classes row column = get_or entries (row * classes.width + colu
 -- the same classes, and entries that the table told, or that are steps
 pub told_by : (cells : List Cell) (table later : Transitions) → later.classes ≡ table.classes → AreTold cells table
     → ((row column : ℕ) (sight : Sight) → IsColumn table.classes sight column → (entry_in later.entries.items table.classes row column ≡ entry_at table row column)
-    ⊎ IsEntry cells row sight (entry_in later.entries.items table.classes row column))
-    → ((i : ℕ) → IsSpread table.classes.width (get_or later.entries.items i Unknown)) → AreTold cells later
-told_by cells table later same told each spread = record {
+    ⊎ IsEntry table.classes cells row sight (entry_in later.entries.items table.classes row column)) → AreTold cells later
+told_by cells table later same told each = record {
   quiet = λ row column sight t is e. there row column sight (Quiet t) (column_in sight column is) e (λ old. told.quiet row column sight t (column_in sight column is) old);
   matching = λ row column sight t is e. there row column sight (Matching t) (column_in sight column is) e (λ old. told.matching row column sight t (column_in sight column is) old);
-  quiet_spread = λ i t e. subst (IsSpread later.classes.width) e (leads i);
-  matching_spread = λ i t e. subst (IsSpread later.classes.width) e (leads i);
 } where
-  leads : (i : ℕ) → IsSpread later.classes.width (get_or later.entries.items i Unknown)
-  leads i = subst (λ (k : Classes). IsSpread k.width (get_or later.entries.items i Unknown)) (sym same) (spread i)
-
   column_in : (sight : Sight) (column : ℕ) → IsColumn later.classes sight column → IsColumn table.classes sight column
   column_in sight column is = subst (λ (k : Classes). IsColumn k sight column) same is
 
   there : (row column : ℕ) (sight : Sight) (y : Entry) → IsColumn table.classes sight column → entry_at later row column ≡ y
-      → (entry_at table row column ≡ y → IsEntry cells row sight y) → IsEntry cells row sight y
+      → (entry_at table row column ≡ y → IsEntry table.classes cells row sight y) → IsEntry later.classes cells row sight y
   there row column sight y is e old =
       let now : entry_in later.entries.items table.classes row column ≡ y = subst (λ (k : Classes). entry_in later.entries.items k row column ≡ y) same e in
-      elim (each row column sight is) [
+      subst (λ (k : Classes). IsEntry k cells row sight y) (sym same)
+      (elim (each row column sight is) [
         | inl kept ↦ old (sym kept ∙ now)
-        | inr told ↦ subst (IsEntry cells row sight) now told
-      ]
+        | inr told ↦ subst (IsEntry table.classes cells row sight) now told
+      ])
 
 -- the entries are the same
 pub told_same : (cells : List Cell) (table later : Transitions) → later.classes ≡ table.classes
     → ((i : ℕ) → get_or later.entries.items i Unknown ≡ get_or table.entries.items i Unknown) → AreTold cells table → AreTold cells later
 told_same cells table later classes same told =
     told_by cells table later classes told (λ row column sight is. inl (same (row * table.classes.width + column)))
-    (λ i. subst (IsSpread table.classes.width) (sym (same i)) (spread_at cells table i told))
 
 -- one entry is put in
 pub told_set : (cells : List Cell) (table later : Transitions) (row column : ℕ) (sight : Sight) (x : Entry) → later.classes ≡ table.classes
     → later.entries.items ≡ set table.entries.items (row * table.classes.width + column) x
-    → row * table.classes.width + column < length table.entries.items → IsColumn table.classes sight column → IsEntry cells row sight x
-    → IsSpread table.classes.width x → AreTold cells table → AreTold cells later
-told_set cells table later row column sight x classes put within is entry far told = told_by cells table later classes told each spread where
-  spread : (i : ℕ) → IsSpread table.classes.width (get_or later.entries.items i Unknown)
-  spread i =
-      let k = row * table.classes.width + column in
-      subst (λ (es : List Entry). IsSpread table.classes.width (get_or es i Unknown)) (sym put) (
-      elim (eqb_tells i k) [
-        | inl same ↦ subst (λ (n : ℕ). IsSpread table.classes.width (get_or (set table.entries.items k x) n Unknown)) (sym same.1)
-            (subst (IsSpread table.classes.width) (sym (get_or-set_same table.entries.items k x Unknown within)) far)
-        | inr away ↦ subst (IsSpread table.classes.width) (sym (get_or-set_other table.entries.items k i x Unknown away.1)) (spread_at cells table i told)
-      ])
-
+    → row * table.classes.width + column < length table.entries.items → IsColumn table.classes sight column → IsEntry table.classes cells row sight x
+    → AreTold cells table → AreTold cells later
+told_set cells table later row column sight x classes put within is entry told = told_by cells table later classes told each where
   each : (r b : ℕ) (seen : Sight) → IsColumn table.classes seen b → (entry_in later.entries.items table.classes r b ≡ entry_at table r b)
-      ⊎ IsEntry cells r seen (entry_in later.entries.items table.classes r b)
+      ⊎ IsEntry table.classes cells r seen (entry_in later.entries.items table.classes r b)
   each r b seen also =
       let w = table.classes.width in
       let now : entry_in later.entries.items table.classes r b ≡ get_or (set table.entries.items (row * w + column) x) (r * w + b) Unknown =
@@ -163,9 +138,9 @@ told_set cells table later row column sight x classes put within is entry far to
             let sights : sight ≡ seen = column_same table.classes sight seen b (subst (IsColumn table.classes sight) columns is) also in
             let there : x ≡ entry_in later.entries.items table.classes r b =
             sym (get_or-set_same table.entries.items (row * w + column) x Unknown within) ∙ ap (λ (i : ℕ). get_or (set table.entries.items (row * w + column) x) i Unknown) (sym same.1) ∙ sym now in
-            inr (subst (λ (n : ℕ). IsEntry cells n seen (entry_in later.entries.items table.classes r b)) rows
-            (subst (λ (s : Sight). IsEntry cells row s (entry_in later.entries.items table.classes r b)) sights
-            (subst (IsEntry cells row sight) there entry))))
+            inr (subst (λ (n : ℕ). IsEntry table.classes cells n seen (entry_in later.entries.items table.classes r b)) rows
+            (subst (λ (s : Sight). IsEntry table.classes cells row s (entry_in later.entries.items table.classes r b)) sights
+            (subst (IsEntry table.classes cells row sight) there entry))))
         | inr away ↦ inl (now ∙ get_or-set_other table.entries.items (row * w + column) (r * w + b) x Unknown away.1)
       ]
 
@@ -196,27 +171,28 @@ holds_more code cells later row sight c told place all rows more from on is same
     }
 
 -- what the table has of a row and a character, after a side that is told apart
-pub told_at : (cells : List Cell) (table : Transitions) (row first byte : ℕ) (c : Column) (before : Side) (e : Entry) → slice_get table.classes.columns.items byte ≡ Some c
-    → number_of before < sides_of table.classes.tests → first ≡ first_of table.classes before → e ≡ entry_at table row (first + c.class)
-    → AreTold cells table → IsEntry cells row (sight_for table.classes before byte) e
-told_at cells table row first byte c before e here seen begins is told =
-    told_entry cells table row (first + c.class) (sight_for table.classes before byte) e told
+pub told_at : (cells : List Cell) (table : Transitions) (row byte column : ℕ) (before : Side) (e : Entry) → slice_get table.classes.columns.items byte ≡ Some column
+    → number_of before < sides_of table.classes.tests → e ≡ get_or table.entries.items (row_start table.classes row before + column) Unknown
+    → AreTold cells table → IsEntry table.classes cells row (sight_for table.classes before byte) e
+told_at cells table row byte column before e here seen is told =
+    let place : row_start table.classes row before + column ≡ row * table.classes.width + (first_of table.classes before + column) = omega arith in
+    told_entry cells table row (first_of table.classes before + column) (sight_for table.classes before byte) e told
     (record {
-      class = c.class;
-      known = table.classes.known byte c here;
+      class = column;
+      known = table.classes.known byte column here;
       side = seen;
-      sight = ap (λ (o : Option Column). sight_of table.classes before (member_or table.classes o byte)) here;
-      column = ap (λ (n : ℕ). n + c.class) begins;
-    }) is
+      sight = ap (λ (o : Option ℕ). sight_of table.classes before (member_or table.classes o byte)) here;
+      column = refl;
+    }) (is ∙ ap (λ (n : ℕ). get_or table.entries.items n Unknown) place)
 
 -- an entry is put in on a character that stands for its class
 pub told_noted : (cells : List Cell) (table made later : Transitions) (row column : ℕ) (sight : Sight) (x : Entry) → IsColumn table.classes sight column → made.classes ≡ table.classes
     → ((i : ℕ) → get_or made.entries.items i Unknown ≡ get_or table.entries.items i Unknown)
     → row * made.classes.width + made.classes.width ≤ length made.entries.items → later.classes ≡ made.classes
-    → later.entries.items ≡ set made.entries.items (row * made.classes.width + column) x → AreTold cells table → IsEntry cells row sight x
-    → IsSpread table.classes.width x → AreTold cells later
-told_noted cells table made later row column sight x is classes same room kept put told entry far =
+    → later.entries.items ≡ set made.entries.items (row * made.classes.width + column) x → AreTold cells table → IsEntry table.classes cells row sight x
+    → AreTold cells later
+told_noted cells table made later row column sight x is classes same room kept put told entry =
     let there : IsColumn made.classes sight column = subst (λ (k : Classes). IsColumn k sight column) (sym classes) is in
     let low = column_within made.classes sight column there in
-    told_set cells made later row column sight x kept put (omega (arith, room, low)) there entry
-    (subst (λ (k : Classes). IsSpread k.width x) (sym classes) far) (told_same cells table made classes same told)
+    told_set cells made later row column sight x kept put (omega (arith, room, low)) there
+    (subst (λ (k : Classes). IsEntry k cells row sight x) (sym classes) entry) (told_same cells table made classes same told)

@@ -6,11 +6,10 @@ use Rattle.std.proofs.lemmas.List.{length-replicate}
 use Rattle.std.proofs.lemmas.Option.{get_or_from_slice_get}
 use Rattle.fancy_code.specs.declared.attempt.Attempt.{Attempt}
 use Rattle.fancy_code.specs.Attempt.{context_in, instrs_in, may_end_in}
-use Rattle.fancy_alphabet.specs.Classes.{IsFirst, sight_for}
+use Rattle.fancy_alphabet.specs.Classes.{IsStart, sight_for}
 use Rattle.fancy_alphabet.specs.Sides.{seen_as}
 use Rattle.fancy_alphabet.specs.Units.{place_after}
 use Rattle.fancy_code.specs.Reading.{unit_read}
-use Rattle.fancy_alphabet.specs.declared.classes.Column.{Column}
 use Rattle.fancy_alphabet.specs.declared.sight.Sight.{Sight}
 use Rattle.fancy_alphabet.proofs.SightLemmas.{like_ascii}
 use Rattle.fancy_automaton.specs.declared.cells.Cell.{Cell}
@@ -30,38 +29,41 @@ use Rattle.fancy_automaton.proofs.CellLemmas.{row_of, row_ways, row_within}
 use Rattle.fancy_automaton.proofs.DecidedLemmas.{Advanced, advanced, end_in, retag, retag_end, retag_first, retag_or}
 use Rattle.fancy_automaton.proofs.GoingLemmas.{passed_none}
 use Rattle.fancy_automaton.proofs.SearchLemmas.{under_none}
-use Rattle.fancy_automaton.proofs.HopLemmas.{ascii_leads, column_low, first_after}
+use Rattle.fancy_automaton.proofs.HopLemmas.{ascii_leads, column_low, start_after}
 use Rattle.fancy_automaton.proofs.SoleLemmas.{Reads, Tells, cell_there, some_of}
 
 -- A step of the table was taken, after which the match ends at `later`.
-pub record Walked (a : Attempt) (cells : Cells) (at : Stand) (c : Column) (t : Transition) (end later : Option ℕ) : Type 0 where
+pub record Walked (a : Attempt) (cells : Cells) (at : Stand) (t : Transition) (end later : Option ℕ) : Type 0 where
   pub row : t.next < length cells.rows.lists.items
-  pub placed : IsPlaced a cells (stood at c t)
-  pub opens : Opens a cells (stood at c t)
+  pub placed : IsPlaced a cells (stood at t)
+  pub starts : IsStart (context_in a) (at.place + 1) cells.table.classes t.next t.ahead
+  pub opens : Opens a cells (stood at t)
   pub decided : (goal : Goal) (start : ℕ) → Decided a goal start (ways_at cells.rows.lists.items at.next) end at.place
       → Decided a goal start (ways_at cells.rows.lists.items t.next) later (at.place + 1)
 
-module _ (a : Attempt) (cells : Cells) (at : Stand) (byte : ℕ) (c : Column) (t : Transition) (followed : IsFollowed a) (holds : HoldsFor cells a.code.now)
-    (low : at.next < length cells.rows.lists.items) (placed : IsPlaced a cells at) (r : Reads a cells at at.next byte c) where
-  walked : (told : IsTransition cells.cells.items at.next (sight_for cells.table.classes (seen_as cells.table.classes.tests placed.begins.0) byte) t) (d : Cell)
-      → slice_get cells.cells.items t.cell ≡ Some d → (end later : Option ℕ) → later ≡ later_end d.matched end at.place → Walked a cells at c t end later
+module _ (a : Attempt) (cells : Cells) (at : Stand) (row byte c : ℕ) (t : Transition) (followed : IsFollowed a) (holds : HoldsFor cells a.code.now)
+    (low : at.next < length cells.rows.lists.items) (placed : IsPlaced a cells at) (starts : IsStart (context_in a) at.place cells.table.classes at.next row)
+    (r : Reads a cells at at.next byte c) where
+  walked : (told : IsTransition cells.table.classes cells.cells.items at.next (sight_for cells.table.classes (seen_as cells.table.classes.tests starts.0) byte) t) (d : Cell)
+      → slice_get cells.cells.items t.cell ≡ Some d → (end later : Option ℕ) → later ≡ later_end d.matched end at.place → Walked a cells at t end later
   walked told d there end later same =
       let classes = cells.table.classes in
       let rows = cells.rows.lists.items in
       let p = at.place in
-      let asked = sight_for classes (seen_as classes.tests placed.begins.0) byte in
+      let asked = sight_for classes (seen_as classes.tests starts.0) byte in
       let small = column_low classes byte c r.column in
-      let like = like_ascii a p classes holds.all.1 placed.begins.0 byte placed.begins.1 small r.before r.here in
+      let like = like_ascii a p classes holds.all.1 starts.0 byte starts.1 small r.before r.here in
       let moved = advanced a cells cells at.next p asked t.cell d followed placed.within placed.good low like holds (λ n v e. e)
       (d, there, told.from d there, told.on d there) (sym (get_or_from_slice_get cells.cells.items t.cell d d there)) in
       let next : d.next ≡ t.next = told.next d there in
       record {
         row = subst (λ (n : ℕ). n < length rows) next moved.row_there;
         placed = record {
-          begins = first_after a classes p byte c small r.here r.column;
+          begins = start_after a classes p byte t.begun t.opened holds.all.1 small r.here told.opened;
           good = ascii_leads a p byte r.before small r.here followed.steady placed.good;
           within = omega (arith, r.before);
         };
+        starts = start_after a classes p byte t.next t.ahead holds.all.1 small r.here told.ahead;
         opens = subst (λ (n : ℕ). HasRow rows t.begun (ways_at rows n ++ a.code.now.start ∷ [])) next
             (subst (λ (n : ℕ). HasRow rows n (ways_at rows d.next ++ a.code.now.start ∷ [])) (told.begun d there) moved.opens);
         decided = λ goal start is.
@@ -70,13 +72,13 @@ module _ (a : Attempt) (cells : Cells) (at : Stand) (byte : ℕ) (c : Column) (t
       }
 
   -- no match ends there
-  pub walked_quiet : Tells a cells at byte c t at.next placed.begins.0 IsQuiet → (end : Option ℕ) → Walked a cells at c t end end
+  pub walked_quiet : Tells a cells at byte c t at.next starts.0 IsQuiet → (end : Option ℕ) → Walked a cells at t end end
   walked_quiet told end =
       let there = cell_there cells.cells.items t.cell told.0.stands in
       walked told.0 there.0 there.1 end end (sym (ap (λ (o : Option ℕ). later_end o end at.place) (told.1 there.0 there.1)))
 
   -- one does
-  pub walked_found : Tells a cells at byte c t at.next placed.begins.0 IsMatching → (end : Option ℕ) → Walked a cells at c t end (Some at.place)
+  pub walked_found : Tells a cells at byte c t at.next starts.0 IsMatching → (end : Option ℕ) → Walked a cells at t end (Some at.place)
   walked_found told end =
       let there = cell_there cells.cells.items t.cell told.0.stands in
       let some = some_of there.0.matched (told.1 there.0 there.1) in
@@ -200,7 +202,7 @@ rests_placed a cells s is some =
 -- where a step leads, the walk rests
 pub step_rests : (a : Attempt) (cells later : Cells) (row place : ℕ) (asked : Sight) (d : Cell) (s : Sole) (near : ℕ) → Advanced a cells later row place asked d
     → s.stand.place ≡ place_after place (option_map unit_read asked.reading) → s.stand.next ≡ d.next → near ≡ min s.stand.place a.last
-    → IsFirst (context_in a) near later.table.classes s.stand.first → Rests a later s
+    → IsStart (context_in a) near later.table.classes s.stand.begun s.stand.opened → Rests a later s
 step_rests a cells later row place asked d s near moved at next is begins =
     let rows = later.rows.lists.items in
     record {
@@ -211,7 +213,7 @@ step_rests a cells later row place asked d s near moved at next is begins =
             let within : s.stand.place ≤ a.last = here.1 in
             let same : near ≡ s.stand.place = omega (arith, is, within) in
             inl (record {
-              begins = subst (λ (p : ℕ). IsFirst (context_in a) p later.table.classes s.stand.first) same begins;
+              begins = subst (λ (p : ℕ). IsStart (context_in a) p later.table.classes s.stand.begun s.stand.opened) same begins;
               good = here.0;
               within = within;
             }))

@@ -2,7 +2,7 @@
 use Rattle.std.specs.Prelude.{◌≡◌, ◌≤◌, ◌<◌, ◌⊎◌, ℕ, true, List, [], ◌∷◌, ◌++◌, Option, None, Some, length, replicate}
 use Rattle.fancy_code.specs.declared.attempt.Attempt.{Attempt}
 use Rattle.fancy_code.specs.Attempt.{context_in, instrs_in, may_end_in}
-use Rattle.fancy_alphabet.specs.Classes.{IsFirst}
+use Rattle.fancy_alphabet.specs.Classes.{IsStart}
 use Rattle.fancy_automaton.specs.declared.cells.Cells.{Cells}
 use Rattle.fancy_automaton.specs.declared.follow.Sole.{Sole}
 use Rattle.fancy_automaton.specs.declared.hop.Stand.{Stand}
@@ -33,9 +33,9 @@ later_end (Some f) end place = Some place
 abbrev pub IsDecided : Attempt → Cells → Goal → Sole → Type 0
 IsDecided a cells goal s = Decided a goal s.start (ways_at cells.rows.lists.items s.stand.next) s.end s.stand.place
 
--- A match may begin and end at a place, and what stands before it is told apart.
+-- A match may begin and end at a place, and it is told where the columns of its row begin for what stands before it.
 pub record IsPlaced (a : Attempt) (cells : Cells) (at : Stand) : Type 0 where
-  pub begins : IsFirst (context_in a) at.place cells.table.classes at.first
+  pub begins : IsStart (context_in a) at.place cells.table.classes at.begun at.opened
   pub good : may_end_in a at.place ≡ true
   pub within : at.place ≤ a.last
 
@@ -43,7 +43,7 @@ pub record IsPlaced (a : Attempt) (cells : Cells) (at : Stand) : Type 0 where
 abbrev pub Opens : Attempt → Cells → Stand → Type 0
 Opens a cells at = HasRow cells.rows.lists.items at.begun (ways_at cells.rows.lists.items at.next ++ a.code.now.start ∷ [])
 
--- Its row is there, and where some way waits, a match may begin and end, and what stands before it is told apart.
+-- Its row is there, and where some way waits, a match may begin and end, and it is told where the columns of its row begin.
 pub record Rests (a : Attempt) (cells : Cells) (s : Sole) : Type 0 where
   pub row : s.stand.next < length cells.rows.lists.items
   pub placed : IsPlaced a cells s.stand ⊎ (ways_at cells.rows.lists.items s.stand.next ≡ [])

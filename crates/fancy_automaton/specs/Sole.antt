@@ -3,18 +3,17 @@ use Rattle.std.specs.Prelude.{◌≡◌, ◌+◌, ◌≤◌, ℕ, true, List, �
 use Rattle.fancy_input.specs.declared.span.Span.{Span}
 use Rattle.fancy_code.specs.declared.attempt.Attempt.{Attempt}
 use Rattle.fancy_code.specs.Attempt.{context_in, may_end_in}
-use Rattle.fancy_alphabet.specs.Classes.{IsFirst}
+use Rattle.fancy_alphabet.specs.Classes.{IsStart}
 use Rattle.fancy_automaton.specs.declared.cells.Cells.{Cells}
 use Rattle.fancy_automaton.specs.declared.follow.Sole.{Sole}
 use Rattle.fancy_automaton.specs.declared.hop.Stand.{Stand}
 use Rattle.fancy_automaton.specs.declared.transitions.Transition.{Transition}
-use Rattle.fancy_alphabet.specs.declared.classes.Column.{Column}
 use Rattle.fancy_automaton.specs.Cells.{IsBounded, IsFor, HasRow}
 use Rattle.fancy_automaton.specs.Search.{Going, IsFollowed}
 
 -- where a step of the table leads
-abbrev pub stood : Stand → Column → Transition → Stand
-stood at c t = record { place = at.place + 1; first = c.following; next = t.next; begun = t.begun }
+abbrev pub stood : Stand → Transition → Stand
+stood at t = record { place = at.place + 1; next = t.next; begun = t.begun; opened = t.opened }
 
 -- a match from a place on, if it ends
 abbrev pub match_from : ℕ → Option ℕ → Option Span
@@ -29,7 +28,7 @@ pub record IsAt (a : Attempt) (cells : Cells) (at : Stand) (ways starts : List �
   pub waits : HasRow cells.rows.lists.items at.next ways
   pub opens : HasRow cells.rows.lists.items at.begun (ways ++ a.code.now.start ∷ [])
   pub going : Going a ways starts found at.place at.place
-  pub begins : IsFirst (context_in a) at.place cells.table.classes at.first
+  pub begins : IsStart (context_in a) at.place cells.table.classes at.begun at.opened
   pub good : may_end_in a at.place ≡ true
   pub within : at.place ≤ a.last
 

@@ -3,20 +3,23 @@ use Rattle.std.specs.Prelude.{◌≡◌, ◌+◌, ◌*◌, ◌<◌, ℕ, List, N
 use Rattle.fancy_alphabet.specs.declared.sight.Sight.{Sight}
 use Rattle.fancy_automaton.specs.declared.cells.Cell.{Cell}
 use Rattle.fancy_automaton.specs.declared.transitions.Transition.{Transition}
-use Rattle.fancy_alphabet.specs.Classes.{IsColumn}
+use Rattle.fancy_alphabet.specs.Classes.{IsColumn, row_start}
+use Rattle.fancy_alphabet.specs.declared.classes.Classes.{Classes}
 use Rattle.fancy_automaton.specs.declared.transitions.Entry.{Entry}
 use Rattle.fancy_automaton.specs.declared.transitions.Transitions.{Transitions}
 use Rattle.fancy_automaton.specs.declared.transitions.View.{View}
 use Rattle.fancy_automaton.specs.declared.transitions.Entry.TheVariants.{Unknown, Quiet, Matching}
 
--- The step is that of a cell from the row on what is seen.
-pub record IsTransition (cells : List Cell) (row : ℕ) (sight : Sight) (t : Transition) : Type 0 where
+-- The step is that of a cell from the row on what is seen, and leads to where its rows have their columns after it.
+pub record IsTransition (classes : Classes) (cells : List Cell) (row : ℕ) (sight : Sight) (t : Transition) : Type 0 where
   pub stands : t.cell < length cells
   pub from : (c : Cell) → slice_get cells t.cell ≡ Some c → c.row ≡ row
   pub on : (c : Cell) → slice_get cells t.cell ≡ Some c → c.sight ≡ sight
   pub next : (c : Cell) → slice_get cells t.cell ≡ Some c → c.next ≡ t.next
   pub begun : (c : Cell) → slice_get cells t.cell ≡ Some c → c.begun ≡ t.begun
   pub origin : (c : Cell) → slice_get cells t.cell ≡ Some c → c.origin ≡ t.origin
+  pub ahead : t.ahead ≡ row_start classes t.next sight.after
+  pub opened : t.opened ≡ row_start classes t.begun sight.after
 
 -- in which no way ended with an outcome
 abbrev pub IsQuiet : List Cell → Transition → Type 0
@@ -26,33 +29,22 @@ IsQuiet cells t = (c : Cell) → slice_get cells t.cell ≡ Some c → c.matched
 abbrev pub IsMatching : List Cell → Transition → Type 0
 IsMatching cells t = (c : Cell) → slice_get cells t.cell ≡ Some c → is_some c.matched ≡ true
 
-abbrev pub IsEntry : List Cell → ℕ → Sight → Entry → Type 0
-IsEntry cells row sight Unknown = Unit {0}
-IsEntry cells row sight (Quiet t) = IsTransition cells row sight t × IsQuiet cells t
-IsEntry cells row sight (Matching t) = IsTransition cells row sight t × IsMatching cells t
-
--- its rows have their entries there, in a table with so many columns
-abbrev pub Spreads : ℕ → Transition → Type 0
-Spreads width t = (t.ahead ≡ t.next * width) × (t.opened ≡ t.begun * width)
-
-abbrev pub IsSpread : ℕ → Entry → Type 0
-IsSpread width Unknown = Unit {0}
-IsSpread width (Quiet t) = Spreads width t
-IsSpread width (Matching t) = Spreads width t
+abbrev pub IsEntry : Classes → List Cell → ℕ → Sight → Entry → Type 0
+IsEntry classes cells row sight Unknown = Unit {0}
+IsEntry classes cells row sight (Quiet t) = IsTransition classes cells row sight t × IsQuiet cells t
+IsEntry classes cells row sight (Matching t) = IsTransition classes cells row sight t × IsMatching cells t
 
 -- what the table has of a row and a column
 abbrev pub entry_at : Transitions → ℕ → ℕ → Entry
 entry_at table row column = get_or table.entries.items (row * table.classes.width + column) Unknown
 
--- Each entry of the table is such a step, on what is seen in its column, and leads to where its rows have their entries.
+-- Each entry of the table is such a step, on what is seen in its column.
 pub record AreTold (cells : List Cell) (table : Transitions) : Type 0 where
   pub quiet : (row column : ℕ) (sight : Sight) (t : Transition) → IsColumn table.classes sight column
-      → entry_at table row column ≡ Quiet t → IsTransition cells row sight t × IsQuiet cells t
+      → entry_at table row column ≡ Quiet t → IsTransition table.classes cells row sight t × IsQuiet cells t
   pub matching : (row column : ℕ) (sight : Sight) (t : Transition) → IsColumn table.classes sight column
-      → entry_at table row column ≡ Matching t → IsTransition cells row sight t × IsMatching cells t
-  pub quiet_spread : (i : ℕ) (t : Transition) → get_or table.entries.items i Unknown ≡ Quiet t → Spreads table.classes.width t
-  pub matching_spread : (i : ℕ) (t : Transition) → get_or table.entries.items i Unknown ≡ Matching t → Spreads table.classes.width t
+      → entry_at table row column ≡ Matching t → IsTransition table.classes cells row sight t × IsMatching cells t
 
 -- the table, as it is read
 abbrev pub IsView : Transitions → View → Type 0
-IsView table v = (v.columns.now ≡ table.classes.columns.items) × (v.entries.now ≡ table.entries.items) × (v.width ≡ table.classes.width)
+IsView table v = (v.columns.now ≡ table.classes.columns.items) × (v.entries.now ≡ table.entries.items)

@@ -13,7 +13,7 @@ ghost use Rattle.fancy_automaton.specs.Search.{BegunIn, Passes, IsFollowed, ends
 use crate::cells::{Cells, origin, restart, seen_at, step_at};
 use crate::follow::{Sole, lengthen};
 use crate::front::place_after;
-use crate::hop::{Stand, first_at, idle_row};
+use crate::hop::{Stand, idle_row, row_start};
 use crate::trail::span_from;
 use fancy_code::attempt::Attempt;
 use fancy_code::options::is_match_boundary;
@@ -38,26 +38,20 @@ fn may_begin(attempt: &Attempt, place: usize) -> bool
     }
 }
 
-/// Forgets all but the row of the ways that wait, where one more step may be one too many.
-fn make_place(attempt: &Attempt, cells: &mut Cells, from: Stand) -> Result<Stand, AllocError>
-    requires row { from.next < length cells.old.rows.lists.items }
+/// Forgets all but the row of the ways that wait, where one more step may be one too many. The answer is the number of that row then.
+fn make_place(attempt: &Attempt, cells: &mut Cells, row: usize) -> Result<usize, AllocError>
+    requires row { row < length cells.old.rows.lists.items }
     requires kept { HoldsFor cells.old attempt.now.code.now }
     ensures kept { HoldsFor cells.new attempt.now.code.now }
     ensures place { IfOk result (λ _. HasPlace cells.new) }
-    ensures stays { IfOk result (λ at. at.place ≡ from.place) }
-    ensures row { IfOk result (λ at. HasRow cells.new.rows.lists.items at.next
-        (ways_at cells.old.rows.lists.items from.next)) }
+    ensures row { IfOk result (λ r. HasRow cells.new.rows.lists.items r
+        (ways_at cells.old.rows.lists.items row)) }
 {
     if !cells.is_full() {
-        return Ok(from);
+        return Ok(row);
     }
-    let target = restart(cells, attempt.code.start, from.next)?;
-    Ok(Stand {
-        place: from.place,
-        first: from.first,
-        next: target.next,
-        begun: target.begun,
-    })
+    let target = restart(cells, attempt.code.start, row)?;
+    Ok(target.next)
 }
 
 /// Whether no way waits.
@@ -109,9 +103,9 @@ fn step(
     Ok(Sole {
         stand: Stand {
             place: after,
-            first: first_at(attempt, cells, after.min(attempt.last)),
             next: cell.next,
             begun: cell.begun,
+            opened: row_start(attempt, cells, after.min(attempt.last), cell.begun),
         },
         start: from.start,
         end,
@@ -137,17 +131,23 @@ fn advance(
     ensures decided { IfOk result (λ to. (goal : Goal)
         → IsDecided attempt.now cells.old goal from → IsDecided attempt.now cells.new goal to) }
 {
-    let stand = make_place(attempt, cells, from.stand)?;
+    let row = make_place(attempt, cells, from.stand.next)?;
+    // The row with one more way is not asked.
     let at = Sole {
-        stand,
+        stand: Stand {
+            place: from.stand.place,
+            next: row,
+            begun: from.stand.begun,
+            opened: from.stand.opened,
+        },
         start: from.start,
         end: from.end,
     };
-    let next = step(attempt, cells, at, work)?;
-    if is_idle(cells, next.stand) {
-        return Ok(next);
+    let to = step(attempt, cells, at, work)?;
+    if is_idle(cells, to.stand) {
+        return Ok(to);
     }
-    Ok(lengthen(attempt, cells, next, idle_row(cells)))
+    Ok(lengthen(attempt, cells, to, idle_row(cells)))
 }
 
 /// Where the match begins and ends that begins at the first place, if there is one. No way begins at a later place.
@@ -180,9 +180,9 @@ pub(crate) fn span_at(
     let from = Sole {
         stand: Stand {
             place,
-            first: first_at(attempt, cells, place),
             next: origin.begun,
             begun: origin.begun,
+            opened: row_start(attempt, cells, place, origin.begun),
         },
         start: place,
         end: None,

@@ -7,7 +7,7 @@ ghost use Rattle.fancy_code.specs.declared.code.Code.{Code};
 ghost use Rattle.fancy_alphabet.specs.Alike.{IsSeenLike};
 ghost use Rattle.fancy_automaton.specs.Steps.{from_of, IsStepOn};
 ghost use Rattle.fancy_automaton.specs.Trail.{came_at};
-ghost use Rattle.fancy_automaton.specs.Transitions.{AreTold, IsEntry, IsSpread};
+ghost use Rattle.fancy_automaton.specs.Transitions.{AreTold, IsEntry};
 ghost use Rattle.fancy_automaton.specs.Cells.{KeepsRows, KeepsCells, HasRow, HasCell, HasPlace, IsFor, IsCell, IsBounded, ways_at, IsEmpty, StaysTrue, GrowsBy, HasRows, HoldsFor};
 ghost use Rattle.fancy_automaton.specs.Counts.{AddsSteps, PaysFor};
 
@@ -74,9 +74,6 @@ const CELL_BYTES: usize = 240;
 
 /// Rows and steps with numbers below this are told by the table.
 const SMALL: usize = 65_536;
-
-/// Rows whose entries begin before this are told by the table.
-const FAR: usize = 4_294_967_296;
 
 /// An instruction of a row takes so many bytes, and so does a way that a step leads to.
 const WAY_BYTES: usize = 8;
@@ -307,13 +304,13 @@ pub(crate) fn seen_at(attempt: &Attempt, cells: &Cells, place: usize) -> Sight
 
 /// The number of the step from a row on what is seen, an ASCII character, if the table tells it.
 fn told(cells: &Cells, row: usize, sight: Sight, byte: u8) -> Option<usize>
-    requires row { row < 4_294_967_296 }
+    requires row { row < 65_536 }
     ensures { IfSome result (λ k. HasCell cells.now.cells.items k row sight) }
 {
     let classes = &cells.table.classes;
     let column = classes.column(byte)?;
     let table = cells.table.view();
-    match table.at(table.start(row), classes.first(sight.before), column) {
+    match table.at(classes.start(row, sight.before), column) {
         Entry::Unknown => None,
         Entry::Quiet(step) | Entry::Matching(step) => {
             tested_cell(&cells.cells, Some(step.cell as usize), row, sight)
@@ -323,17 +320,14 @@ fn told(cells: &Cells, row: usize, sight: Sight, byte: u8) -> Option<usize>
 
 /// Whether the table tells the step from a row on an ASCII character, with what stands before it.
 pub(crate) fn is_told(cells: &Cells, row: usize, before: Side, byte: u8) -> bool
-    requires row { row < 4_294_967_296 }
+    requires row { row < 65_536 }
 {
     let classes = &cells.table.classes;
     let Some(column) = classes.column(byte) else {
         return false;
     };
     let table = cells.table.view();
-    !matches!(
-        table.at(table.start(row), classes.first(before), column),
-        Entry::Unknown
-    )
+    !matches!(table.at(classes.start(row, before), column), Entry::Unknown)
 }
 
 /// The number of the step from a row on what is seen, if it is remembered.
@@ -381,26 +375,20 @@ fn hint_cell(
     Ok(())
 }
 
-/// The entry of the step with this number, in a table with so many columns.
-fn entry_of(cells: &[Cell], k: usize, width: usize) -> Entry
-    requires cell { k < length cells.now }
-    requires narrow { width < 2_147_483_648 }
-    ensures entry { (row : ℕ) (sight : Sight) → HasCell cells.now k row sight
-        → IsEntry cells.now row sight result }
-    ensures spread { IsSpread width result }
+/// The entry of the step with this number, in a table of these classes.
+fn entry_of(cells: &[Cell], k: usize, classes: &Classes) -> Entry
+    requires { k < length cells.now }
+    ensures { (row : ℕ) (sight : Sight) → HasCell cells.now k row sight
+        → IsEntry classes.now cells.now row sight result }
 {
     let cell = &cells[k];
     if k >= SMALL || cell.next >= SMALL || cell.begun >= SMALL {
         return Entry::Unknown;
     }
-    let ahead = cell.next * width;
-    let opened = cell.begun * width;
-    if ahead >= FAR || opened >= FAR {
-        return Entry::Unknown;
-    }
+    let after = cell.sight.after;
     let step = Transition {
-        ahead: ahead as u32,
-        opened: opened as u32,
+        ahead: classes.start(cell.next, after),
+        opened: classes.start(cell.begun, after),
         cell: k as u16,
         next: cell.next as u16,
         begun: cell.begun as u16,
@@ -431,7 +419,7 @@ fn note(
     if cell.row >= SMALL {
         return Ok(());
     }
-    let entry = entry_of(cells, k, table.view().width);
+    let entry = entry_of(cells, k, &table.classes);
     table.note(cell.row, cell.sight, entry)
 }
 

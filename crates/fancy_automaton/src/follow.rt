@@ -9,7 +9,7 @@ ghost use Rattle.fancy_automaton.specs.Sole.{IsAmid, IsSole, Reaches};
 ghost use Rattle.fancy_automaton.specs.Decided.{Goal, IsDecided, IsPlaced, Opens};
 
 use crate::cells::Cells;
-use crate::hop::{Stand, first_at, idle_row, stand_after};
+use crate::hop::{Stand, ahead_of, idle_row, row_start, stand_after};
 use crate::origin::Origin;
 use crate::rows::Target;
 use crate::trail::VISITS;
@@ -45,9 +45,9 @@ impl Sole {
         Sole {
             stand: Stand {
                 place,
-                first: first_at(attempt, cells, place),
                 next: rows.next,
                 begun: rows.begun,
+                opened: row_start(attempt, cells, place, rows.begun),
             },
             start: place,
             end: None,
@@ -90,6 +90,7 @@ pub(crate) fn next_place(attempt: &Attempt, from: usize) -> usize
 /// Goes on until a match is found, or ways wait that began at several places. Where no way waits at two places in a row, it is
 /// left to a scan to find the next place.
 fn seek(attempt: &Attempt, cells: &Cells, from: Sole, idle: usize) -> Sole
+    requires idle { IsIdle cells.now.rows.lists.items idle }
     requires sole { IsSole attempt.now cells.now from }
     requires nothing { from.end ≡ None }
     ensures reaches { Reaches attempt.now cells.now from.stand.place result }
@@ -98,26 +99,25 @@ fn seek(attempt: &Attempt, cells: &Cells, from: Sole, idle: usize) -> Sole
     let table = cells.table.view();
     let haystack = attempt.haystack;
     let mut at = from.stand;
-    let mut row = table.start(at.begun);
     let mut start = from.start;
     'places: while at.place < attempt.last {
         let Some(column) = table.column(haystack[at.place]) else {
             break 'places;
         };
-        let Entry::Quiet(step) = table.at(row, at.first, column) else {
+        let Entry::Quiet(step) = table.at(at.opened, column) else {
             break 'places;
         };
         match step.origin {
-            Origin::Mixed => break 'places,
+            Origin::Mixed => {
+                if step.next as usize == idle {
+                    at = stand_after(at, step);
+                }
+                break 'places;
+            }
             Origin::Last => start = at.place,
             Origin::Earlier => {}
         }
-        let rests = at.next == idle && step.next as usize == idle;
-        row = step.opened as usize;
-        at = stand_after(at, column, step);
-        if rests {
-            break 'places;
-        }
+        at = stand_after(at, step);
     }
     Sole {
         stand: at,
@@ -138,14 +138,13 @@ fn hunt(attempt: &Attempt, cells: &Cells, from: Stand, idle: usize) -> Option<So
     let haystack = attempt.haystack;
     let limit = attempt.last.min(from.place.saturating_add(VISITS));
     let mut at = from;
-    let mut row = table.start(at.begun);
     'places: while at.place < limit {
         let column = table.column(haystack[at.place])?;
-        let Entry::Quiet(step) = table.at(row, at.first, column) else {
+        let Entry::Quiet(step) = table.at(at.opened, column) else {
             return None;
         };
         let sole = Sole {
-            stand: stand_after(at, column, step),
+            stand: stand_after(at, step),
             start: at.place,
             end: None,
         };
@@ -155,7 +154,6 @@ fn hunt(attempt: &Attempt, cells: &Cells, from: Stand, idle: usize) -> Option<So
         if let Origin::Last = step.origin {
             return Some(sole);
         }
-        row = step.opened as usize;
         at = sole.stand;
     }
     None
@@ -206,7 +204,7 @@ fn past(attempt: &Attempt, cells: &Cells, at: Sole, idle: usize) -> Option<Sole>
     }
     let table = cells.table.view();
     let column = table.column(attempt.haystack[at.stand.place])?;
-    let step = match table.at(table.start(at.stand.begun), at.stand.first, column) {
+    let step = match table.at(at.stand.opened, column) {
         Entry::Unknown => return None,
         Entry::Quiet(_) => return onward(attempt, cells, at.stand, idle),
         Entry::Matching(step) => step,
@@ -217,7 +215,7 @@ fn past(attempt: &Attempt, cells: &Cells, at: Sole, idle: usize) -> Option<Sole>
         Origin::Earlier => at.start,
     };
     Some(Sole {
-        stand: stand_after(at.stand, column, step),
+        stand: stand_after(at.stand, step),
         start,
         end: Some(at.stand.place),
     })
@@ -241,13 +239,13 @@ pub(crate) fn lengthen(attempt: &Attempt, cells: &Cells, from: Sole, idle: usize
     let table = cells.table.view();
     let haystack = attempt.haystack;
     let mut at = from.stand;
-    let mut row = table.start(at.next);
+    let mut row = ahead_of(attempt, cells, at);
     let mut end = from.end;
     'places: while at.place < attempt.last && at.next != idle {
         let Some(column) = table.column(haystack[at.place]) else {
             break 'places;
         };
-        let step = match table.at(row, at.first, column) {
+        let step = match table.at(row, column) {
             Entry::Unknown => break 'places,
             Entry::Quiet(step) => step,
             Entry::Matching(step) => {
@@ -255,8 +253,8 @@ pub(crate) fn lengthen(attempt: &Attempt, cells: &Cells, from: Sole, idle: usize
                 step
             }
         };
-        row = step.ahead as usize;
-        at = stand_after(at, column, step);
+        row = step.ahead;
+        at = stand_after(at, step);
     }
     Sole {
         stand: at,

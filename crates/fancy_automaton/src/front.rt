@@ -2,7 +2,7 @@
 
 ghost use Rattle.std.specs.Prelude.{◌≡◌, ◌+◌, ◌<◌, ◌≤◌, ℕ, true, [], OnOk, IfOk, IfSome, is_some, length, option_map};
 ghost use Rattle.fancy_code.specs.Attempt.{context_in, may_end_in};
-ghost use Rattle.fancy_alphabet.specs.Classes.{IsFirst};
+ghost use Rattle.fancy_alphabet.specs.Classes.{IsStart};
 ghost use Rattle.fancy_code.specs.CodeLength.{code_len};
 ghost use Rattle.fancy_code.specs.Reading.{unit_read};
 ghost use Rattle.fancy_code.specs.declared.attempt.Attempt.{Attempt};
@@ -15,7 +15,7 @@ ghost use Rattle.fancy_automaton.specs.Counts.{AddsSteps};
 
 use crate::cells::{Cells, is_told, remembered, restart, seen_at, step_at};
 use crate::follow::{Sole, follow, next_place};
-use crate::hop::{Stand, first_at, run};
+use crate::hop::{Stand, row_start, run};
 use crate::trail::{
     Hit, Trail, VISITS, Visit, hit_from, note_hit, row_at, settled, shared_start, span_of,
     start_at, starts_in,
@@ -273,18 +273,19 @@ impl Front {
 
     /// Where the search stands at a place.
     fn stand(&self, attempt: &Attempt, cells: &Cells, place: usize) -> Stand
-        requires { place ≤ length attempt.now.haystack.now }
+        requires place { place ≤ length attempt.now.haystack.now }
+        requires row { self.now.begun < 65_536 }
         ensures place { result.place ≡ place }
-        ensures first { IsFirst (context_in attempt.now) place cells.now.table.classes
-            result.first }
+        ensures opened { IsStart (context_in attempt.now) place cells.now.table.classes
+            result.begun result.opened }
         ensures next { result.next ≡ self.now.next }
         ensures begun { result.begun ≡ self.now.begun }
     {
         Stand {
             place,
-            first: first_at(attempt, cells, place),
             next: self.next,
             begun: self.begun,
+            opened: row_start(attempt, cells, place, self.begun),
         }
     }
 

@@ -1,20 +1,20 @@
 //! The inner loop of a search: steps on ASCII characters, by the table.
 
-ghost use Rattle.std.specs.Prelude.{◌≡◌, ◌<◌, ◌≤◌, ℕ, Some, None, IfOk, IfSome, length, slice_get};
+ghost use Rattle.std.specs.Prelude.{◌≡◌, ◌<◌, ◌≤◌, ℕ, List, Some, None, IfOk, IfSome, length, slice_get};
 ghost use Rattle.fancy_code.specs.Attempt.{context_in};
-ghost use Rattle.fancy_automaton.specs.Cells.{IsBounded, IsIdle};
+ghost use Rattle.fancy_automaton.specs.Cells.{IsBounded, IsIdle, row_if};
 ghost use Rattle.fancy_automaton.specs.Front.{IsFront, front_at, Stands};
 ghost use Rattle.fancy_automaton.specs.Sole.{stood};
-ghost use Rattle.fancy_automaton.specs.Trail.{hit_or, most_visits};
-ghost use Rattle.fancy_alphabet.specs.Classes.{IsFirst};
-ghost use Rattle.fancy_automaton.specs.Transitions.{IsEntry, IsSpread, IsTransition, Spreads};
+ghost use Rattle.fancy_automaton.specs.Trail.{found_in_trail, hit_or, most_visits};
+ghost use Rattle.fancy_automaton.specs.declared.trail.Trail.{Trail};
+ghost use Rattle.fancy_alphabet.specs.Classes.{IsStart};
+ghost use Rattle.fancy_automaton.specs.Transitions.{IsEntry, IsTransition};
 ghost use Rattle.fancy_alphabet.specs.declared.sight.Sight.{Sight};
 ghost use Rattle.fancy_automaton.specs.declared.cells.Cell.{Cell};
 
 use crate::cells::Cells;
-use crate::trail::{Hit, Trail, VISITS, Visit, note_hit, row_at, start_at};
+use crate::trail::{Hit, Trail, VISITS, Visit, note_hit, start_at};
 use crate::transitions::{Entry, Transition};
-use fancy_alphabet::classes::Column;
 use fancy_code::attempt::Attempt;
 use std::alloc::AllocError;
 
@@ -23,22 +23,37 @@ use std::alloc::AllocError;
 pub struct Stand {
     /// The place, a byte offset.
     pub place: usize,
-    /// The first column of what stands before it.
-    pub first: usize,
     /// The row of the ways that wait there.
     pub next: usize,
     /// That row with one more way, which begins there.
     pub begun: usize,
+    /// Where the columns of that row begin for what stands before the place.
+    pub opened: u32,
 }
 
-/// The first column of what stands before a place, a byte offset.
+/// Where the columns of a row begin for what stands before a place, a byte offset.
 #[inline(always)]
-pub(crate) fn first_at(attempt: &Attempt, cells: &Cells, place: usize) -> usize
-    requires { place ≤ length attempt.now.haystack.now }
-    ensures { IsFirst (context_in attempt.now) place cells.now.table.classes result }
+pub(crate) fn row_start(attempt: &Attempt, cells: &Cells, place: usize, row: usize) -> u32
+    requires place { place ≤ length attempt.now.haystack.now }
+    requires row { row < 65_536 }
+    ensures { IsStart (context_in attempt.now) place cells.now.table.classes row result }
 {
     let classes = &cells.table.classes;
-    classes.first(classes.tests.before(attempt, place))
+    classes.start(row, classes.tests.before(attempt, place))
+}
+
+/// Where the columns of the row of the ways that wait begin for what stands before the place.
+#[inline(always)]
+pub(crate) fn ahead_of(attempt: &Attempt, cells: &Cells, at: Stand) -> u32
+    requires row { at.next < 65_536 }
+    requires start { IsStart (context_in attempt.now) at.place cells.now.table.classes at.begun
+        at.opened }
+    ensures { IsStart (context_in attempt.now) at.place cells.now.table.classes at.next result }
+{
+    let width = cells.table.classes.width;
+    let begun = at.begun * width;
+    let next = at.next * width;
+    (next + (at.opened as usize - begun)) as u32
 }
 
 /// Notes the match that an entry's step finds at a place, if it finds one. The answer is the step, if the entry has one.
@@ -52,10 +67,11 @@ fn step_of(
 ) -> Option<Transition>
     ensures none { result ≡ None → hit.new ≡ hit.old }
     ensures unknown { entry ≡ Entry.Unknown → result ≡ None }
-    ensures told { (row : ℕ) (sight : Sight) → IsEntry cells.now.cells.items row sight entry
-        → IfSome result (λ t. IsTransition cells.now.cells.items row sight t) }
-    ensures spread { (width : ℕ) → IsSpread width entry → IfSome result (Spreads width) }
-    ensures found { (row : ℕ) (sight : Sight) → IsEntry cells.now.cells.items row sight entry
+    ensures told { (row : ℕ) (sight : Sight)
+        → IsEntry cells.now.table.classes cells.now.cells.items row sight entry
+        → IfSome result (IsTransition cells.now.table.classes cells.now.cells.items row sight) }
+    ensures found { (row : ℕ) (sight : Sight)
+        → IsEntry cells.now.table.classes cells.now.cells.items row sight entry
         → IfSome result (λ t. (c : Cell) → slice_get cells.now.cells.items t.cell ≡ Some c
         → hit.new ≡ hit_or hit.old c.matched visits place) }
 {
@@ -90,15 +106,27 @@ pub(crate) fn idle_row(cells: &Cells) -> usize
 
 /// Where a step of the table leads.
 #[inline(always)]
-pub(crate) fn stand_after(at: Stand, column: Column, step: Transition) -> Stand
+pub(crate) fn stand_after(at: Stand, step: Transition) -> Stand
     requires { at.place < usize.MAX }
-    ensures { result ≡ stood at column step }
+    ensures { result ≡ stood at step }
 {
     Stand {
         place: at.place + 1,
-        first: column.following as usize,
         next: step.next as usize,
         begun: step.begun as usize,
+        opened: step.opened,
+    }
+}
+
+/// Where the columns begin of the row of a place: where nothing was found, one more way begins there.
+#[inline(always)]
+fn start_of_row(hit: Option<Hit>, ahead: u32, opened: u32) -> u32
+    ensures { (cells : List Cell) (trail : Trail)
+        → result ≡ row_if (found_in_trail cells trail hit) ahead opened }
+{
+    match hit {
+        None => opened,
+        Some(_) => ahead,
     }
 }
 
@@ -119,8 +147,8 @@ pub(crate) fn run(
     hit: &mut Option<Hit>,
 ) -> Result<Stand, AllocError>
     requires stands { Stands attempt.now cells.now (front_at from trail.old hit.old) from.place }
-    requires before { IsFirst (context_in attempt.now) from.place cells.now.table.classes
-        from.first }
+    requires before { IsStart (context_in attempt.now) from.place cells.now.table.classes
+        from.begun from.opened }
     ensures front { IfOk result (λ to. IsFront attempt.now cells.now
         (front_at to trail.new hit.new) to.place to.place) }
     ensures forth { IfOk result (λ to. from.place ≤ to.place) }
@@ -133,7 +161,7 @@ pub(crate) fn run(
     let idle = idle_row(cells);
     let table = cells.table.view();
     let mut at = from;
-    let mut row = table.start(row_at(*hit, at.next, at.begun));
+    let mut row = start_of_row(*hit, ahead_of(attempt, cells, at), at.opened);
     let searches = hit.is_none();
     let mut ends = false;
     'places: while at.place < end && !ends {
@@ -142,7 +170,7 @@ pub(crate) fn run(
         let Some(column) = table.column(byte) else {
             return Ok(at);
         };
-        let entry = table.at(row, at.first, column);
+        let entry = table.at(row, column);
         let visits = trail.visits.len();
         let Some(step) = step_of(entry, cells, hit, visits, at.place) else {
             return Ok(at);
@@ -151,8 +179,8 @@ pub(crate) fn run(
             cell: step.cell as usize,
             start,
         })?;
-        row = row_at(*hit, step.ahead as usize, step.opened as usize);
-        at = stand_after(at, column, step);
+        row = start_of_row(*hit, step.ahead, step.opened);
+        at = stand_after(at, step);
         ends = leaves(at, idle, *hit, searches);
     }
     Ok(at)

@@ -29,11 +29,15 @@ fn are_all(numbers: &[usize], one: usize) -> bool
     numbers.iter().all(|number| *number == one)
 }
 
-/// Of which of so many ways of a row those come that a step leads to, and the match that it finds.
+/// Of which of so many ways of a row those come that a step leads to, and the match that it finds. Where the one way of a row ends
+/// without a match, neither is told: there a walk ends in which no way waits at two places in a row.
 pub(crate) fn origin_of(came: &[usize], matched: Option<usize>, ways: usize) -> Origin
     ensures { ComeFrom result ways came.now matched }
 {
     if ways == 0 {
+        return Origin::Mixed;
+    }
+    if ways == 1 && came.is_empty() && matched.is_none() {
         return Origin::Mixed;
     }
     let last = ways - 1;

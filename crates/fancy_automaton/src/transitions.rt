@@ -1,22 +1,22 @@
 //! The table that a search goes by: the step from each row on an ASCII character, as far as it is remembered.
 
 ghost use Rattle.std.specs.Prelude.{◌≡◌, ◌+◌, ◌*◌, ◌<◌, ◌≤◌, ℕ, [], List, OnOk, get_or, length, slice_get, Some};
-ghost use Rattle.fancy_alphabet.specs.Classes.{first_of, sight_for};
+ghost use Rattle.fancy_alphabet.specs.Classes.{row_start, sight_for};
 ghost use Rattle.fancy_alphabet.specs.Sides.{number_of, sides_of};
-ghost use Rattle.fancy_automaton.specs.Transitions.{AreTold, IsEntry, IsSpread, IsView};
+ghost use Rattle.fancy_automaton.specs.Transitions.{AreTold, IsEntry, IsView};
 ghost use Rattle.fancy_automaton.specs.declared.transitions.Transitions.{Transitions};
 ghost use Rattle.fancy_automaton.specs.declared.cells.Cell.{Cell};
 ghost use Rattle.fancy_alphabet.specs.declared.side.Side.{Side};
 
 use crate::origin::Origin;
-use fancy_alphabet::classes::{Classes, Column};
+use fancy_alphabet::classes::Classes;
 use fancy_alphabet::sight::Sight;
 use std::alloc::{AllocError, Global};
 
 /// A step, told by numbers.
 #[derive(Clone, Copy)]
 pub struct Transition {
-    /// Where the entries begin of the row after what is read.
+    /// Where the columns begin of the row after what is read, which stands before it.
     pub ahead: u32,
     /// Where those begin of that row with one more way.
     pub opened: u32,
@@ -65,13 +65,11 @@ impl Transitions {
     /// The table, to be read.
     #[inline(always)]
     pub fn view(&self) -> View<'_>
-        ensures view { IsView self.now result }
-        ensures narrow { result.width < 2_147_483_648 }
+        ensures { IsView self.now result }
     {
         View {
             columns: &self.classes.columns,
             entries: &self.entries,
-            width: self.classes.width,
         }
     }
 
@@ -94,8 +92,8 @@ impl Transitions {
     /// Puts in an entry of a row, on a character that stands for its class.
     pub fn note(&mut self, row: usize, sight: Sight, entry: Entry) -> Result<(), AllocError>
         requires { row < 4_294_967_296 }
-        ensures told { (cells : List Cell) → AreTold cells self.old → IsEntry cells row sight entry
-            → IsSpread self.old.classes.width entry → AreTold cells self.new }
+        ensures told { (cells : List Cell) → AreTold cells self.old
+            → IsEntry self.old.classes cells row sight entry → AreTold cells self.new }
         ensures classes { self.new.classes ≡ self.old.classes }
     {
         let Some(column) = self.classes.column_of(sight) else {
@@ -111,50 +109,31 @@ impl Transitions {
 #[derive(Clone, Copy)]
 pub struct View<'t> {
     /// The column of each character that has one.
-    pub columns: &'t [Column],
+    pub columns: &'t [u8],
     /// The entries.
     pub entries: &'t [Entry],
-    /// How many columns there are.
-    pub width: usize,
 }
 
 impl View<'_> {
     /// The column of a character, if it has one.
     #[inline(always)]
-    pub fn column(self, byte: u8) -> Option<Column>
+    pub fn column(self, byte: u8) -> Option<u8>
         ensures { result ≡ slice_get self.entry.columns.now byte }
     {
         self.columns.get(byte as usize).copied()
     }
 
-    /// Where the entries of a row begin.
+    /// What the table has of a column of a row, whose columns begin at `start` for what stands before.
     #[inline(always)]
-    pub fn start(self, row: usize) -> usize
-        requires row { row < 4_294_967_296 }
-        requires narrow { self.width < 2_147_483_648 }
-        ensures start { result ≡ row * self.entry.width }
-        ensures low { result < 9_223_372_036_854_775_808 }
-    {
-        row * self.width
-    }
-
-    /// What the table has of a column of the row whose entries begin at `start`, where the columns begin at `first` of what stands
-    /// before.
-    #[inline(always)]
-    pub fn at(self, start: usize, first: usize, column: Column) -> Entry
-        requires start { start < 9_223_372_036_854_775_808 }
-        requires first { first < 4_294_967_296 }
-        ensures told { (cells : List Cell) (table : Transitions) (row : ℕ) (before : Side) (byte : ℕ)
-            → IsView table self.entry → AreTold cells table → start ≡ row * table.classes.width
-            → number_of before < sides_of table.classes.tests
-            → first ≡ first_of table.classes before
-            → slice_get self.entry.columns.now byte ≡ Some column
-            → IsEntry cells row (sight_for table.classes before byte) result }
-        ensures spread { (cells : List Cell) (table : Transitions)
+    pub fn at(self, start: u32, column: u8) -> Entry
+        ensures { (cells : List Cell) (table : Transitions) (row : ℕ) (before : Side) (byte : ℕ)
             → IsView table self.entry → AreTold cells table
-            → IsSpread table.classes.width result }
+            → number_of before < sides_of table.classes.tests
+            → start ≡ row_start table.classes row before
+            → slice_get self.entry.columns.now byte ≡ Some column
+            → IsEntry table.classes cells row (sight_for table.classes before byte) result }
     {
-        match self.entries.get(start + (first + column.class as usize)) {
+        match self.entries.get(start as usize + column as usize) {
             Some(entry) => *entry,
             None => Entry::Unknown,
         }

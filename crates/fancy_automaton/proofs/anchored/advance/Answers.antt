@@ -1,13 +1,13 @@
-use Rattle.std.proofs.Common.{sym}
+use Rattle.std.proofs.Common.{refl, sym}
 use Rattle.fancy_automaton.proofs.CellLemmas.{row_ways}
 use Rattle.fancy_automaton.proofs.WalkLemmas.{decided_moved, rests_placed}
 use Rattle.fancy_automaton.proofs.anchored.advance.Goals as goal
 
 pub lengthen-requires-clause-placed : goal.lengthen-requires-clause-placed
-lengthen-requires-clause-placed c = rests_placed c.args.attempt.now c.step.new.cells c.in_ok-next.next c.in_ok-next.ensures.rests (c.is_idle.ensures.some c.if-is_idle.false)
+lengthen-requires-clause-placed c = rests_placed c.args.attempt.now c.step.new.cells c.in_ok-to.to c.in_ok-to.ensures.rests (c.is_idle.ensures.some c.if-is_idle.false)
 
 pub returns-clause-decided : goal.returns-clause-decided
 returns-clause-decided c goal is =
-    c.lengthen.ensures.decided goal (c.in_ok-next.ensures.decided goal
-    (decided_moved c.args.attempt.now goal c.args.from.start _ _ c.args.from.end c.args.from.stand.place c.in_ok-stand.stand.place
-    (sym (row_ways c.make_place.new.cells.rows.lists.items c.in_ok-stand.stand.next _ c.in_ok-stand.ensures.row)) (sym c.in_ok-stand.ensures.stays) is))
+    c.lengthen.ensures.decided goal (c.in_ok-to.ensures.decided goal
+    (decided_moved c.args.attempt.now goal c.args.from.start _ _ c.args.from.end c.args.from.stand.place c.args.from.stand.place
+    (sym (row_ways c.make_place.new.cells.rows.lists.items c.in_ok-row.row _ c.in_ok-row.ensures.row)) refl is))

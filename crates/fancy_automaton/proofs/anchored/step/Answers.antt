@@ -3,9 +3,18 @@ use Rattle.fancy_code.specs.Reading.{unit_read}
 use Rattle.fancy_alphabet.specs.Units.{place_after}
 use Rattle.fancy_automaton.specs.Cells.{ways_at}
 use Rattle.fancy_automaton.specs.Decided.{Decided}
+use Rattle.fancy_automaton.proofs.CellLemmas.{row_within}
 use Rattle.fancy_automaton.proofs.DecidedLemmas.{advanced}
 use Rattle.fancy_automaton.proofs.WalkLemmas.{step_rests}
 use Rattle.fancy_automaton.proofs.anchored.step.Goals as goal
+
+pub row_start-requires-clause-row : goal.row_start-requires-clause-row
+row_start-requires-clause-row c =
+    let rows = c.step_at.new.cells.rows.lists.items in
+    let moved = advanced c.args.attempt.now c.args.cells.now c.step_at.new.cells c.args.from.stand.next c.args.from.stand.place c.seen_at-sight.result c.in_ok-k.k c.index-cell.result.now
+    c.requires.followed c.requires.within c.requires.good c.requires.row (c.seen_at-sight.ensures.told c.requires.all) c.step_at.ensures.kept c.step_at.ensures.rows c.in_ok-k.ensures.cell c.index-cell.ensures in
+    let low = row_within rows c.index-cell.result.now.begun _ moved.opens in
+    omega (arith, low, c.step_at.ensures.kept.bounded.rows)
 
 pub returns-clause-forth : goal.returns-clause-forth
 returns-clause-forth c =
@@ -18,7 +27,7 @@ returns-clause-rests c =
     let moved = advanced c.args.attempt.now c.args.cells.now c.step_at.new.cells c.args.from.stand.next c.args.from.stand.place c.seen_at-sight.result c.in_ok-k.k c.index-cell.result.now
     c.requires.followed c.requires.within c.requires.good c.requires.row (c.seen_at-sight.ensures.told c.requires.all) c.step_at.ensures.kept c.step_at.ensures.rows c.in_ok-k.ensures.cell c.index-cell.ensures in
     step_rests c.args.attempt.now c.args.cells.now c.step_at.new.cells c.args.from.stand.next c.args.from.stand.place c.seen_at-sight.result c.index-cell.result.now _ c.min.result moved
-    c.place_after-after.ensures.after refl c.min.ensures c.first_at.ensures
+    c.place_after-after.ensures.after refl c.min.ensures c.row_start.ensures
 
 pub returns-clause-decided : goal.returns-clause-decided
 returns-clause-decided c goal is =

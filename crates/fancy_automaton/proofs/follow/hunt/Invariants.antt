@@ -1,12 +1,10 @@
-use Rattle.std.proofs.Common.{◌≡◌, ◌-◌, ◌*◌, ◌<◌, ◌≤◌}
+use Rattle.std.proofs.Common.{◌-◌, ◌≤◌}
 use Rattle.fancy_automaton.specs.Sole.{IsAmid}
 use Rattle.fancy_automaton.proofs.follow.hunt.Given as goal
 
 abbrev pub invariant-places : goal.invariant-places
 invariant-places l = record {
   amid : IsAmid l.attempt l.cells l.at;
-  starts : l.row ≡ l.at.begun * l.cells.table.classes.width;
-  low : l.row < 9223372036854775808;
   forth : l.fn.from.place ≤ l.at.place;
 }
 

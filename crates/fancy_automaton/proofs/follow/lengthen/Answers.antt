@@ -1,5 +1,7 @@
-use Rattle.std.proofs.Common.{◌≡◌, ◌*◌, ◌<◌, ◌∙◌, ap, arith, get_or, length, Option, ℕ, subst, sym, is_some}
+use Rattle.std.proofs.Common.{◌<◌, ◌∙◌, ap, arith, get_or, length, Option, ℕ, subst, sym, is_some}
+use Rattle.fancy_code.specs.Attempt.{context_in}
 use Rattle.fancy_alphabet.proofs.NumberLemmas.{seen_low}
+use Rattle.fancy_alphabet.specs.Classes.{IsStart}
 use Rattle.fancy_alphabet.specs.Sides.{seen_as}
 use Rattle.fancy_automaton.specs.Cells.{ways_at}
 use Rattle.fancy_automaton.specs.Decided.{Decided, IsPlaced, Opens}
@@ -17,38 +19,31 @@ places-preserved c =
     let at = c.places.at in
     let byte = get_or a.haystack.now at.place 0 in
     let placed = c.places.invariant.placed in
+    let starts = c.places.invariant.starts in
     let classes = cells.table.classes in
     let column = c.in-Some.column in
     let seen = sym c.in-Some.ensures in
-    let view = c.view-table.ensures.view in
+    let view = c.view-table.ensures in
     let r = reads a cells at c.view-table.result at.next column c.requires.followed view (omega arith) seen in
-    let side = seen_as classes.tests placed.begins.0 in
-    let low = seen_low classes.tests placed.begins.0 in
+    let side = seen_as classes.tests starts.0 in
+    let low = seen_low classes.tests starts.0 in
     let step = c.match-at.step in
-    let walked : Walked a cells at column step c.places.end c.match-at.end =
+    let walked : Walked a cells at step c.places.end c.match-at.end =
     elim c.match-at.branch [
-      | in-Quiet w ↦ subst (λ (t : Transition). Walked a cells at column t c.places.end c.match-at.end) (sym w.step-is)
-          (subst (λ (o : Option ℕ). Walked a cells at column w.in-Quiet.step c.places.end o) (sym w.end-is)
-          (walked_quiet a cells at byte column w.in-Quiet.step c.requires.followed c.requires.kept c.places.invariant.row placed r
-          (w.in-Quiet.ensures.told cells.cells.items cells.table at.next side byte view c.requires.kept.bounded.told c.places.invariant.starts low placed.begins.2 seen) c.places.end))
-      | in-Matching w ↦ subst (λ (t : Transition). Walked a cells at column t c.places.end c.match-at.end) (sym w.step-is)
-          (subst (λ (o : Option ℕ). Walked a cells at column w.in-Matching.step c.places.end o) (sym w.end-is)
-          (walked_found a cells at byte column w.in-Matching.step c.requires.followed c.requires.kept c.places.invariant.row placed r
-          (w.in-Matching.ensures.told cells.cells.items cells.table at.next side byte view c.requires.kept.bounded.told c.places.invariant.starts low placed.begins.2 seen) c.places.end))
-    ] in
-    let spread : step.ahead ≡ step.next * classes.width =
-    elim c.match-at.branch [
-      | in-Quiet w ↦ subst (λ (t : Transition). t.ahead ≡ t.next * classes.width) (sym w.step-is)
-          (w.in-Quiet.ensures.spread cells.cells.items cells.table view c.requires.kept.bounded.told).0
-      | in-Matching w ↦ subst (λ (t : Transition). t.ahead ≡ t.next * classes.width) (sym w.step-is)
-          (w.in-Matching.ensures.spread cells.cells.items cells.table view c.requires.kept.bounded.told).0
+      | in-Quiet w ↦ subst (λ (t : Transition). Walked a cells at t c.places.end c.match-at.end) (sym w.step-is)
+          (subst (λ (o : Option ℕ). Walked a cells at w.in-Quiet.step c.places.end o) (sym w.end-is)
+          (walked_quiet a cells at c.places.row byte column w.in-Quiet.step c.requires.followed c.requires.kept c.places.invariant.row placed starts r
+          (w.in-Quiet.ensures cells.cells.items cells.table at.next side byte view c.requires.kept.bounded.told low starts.2 seen) c.places.end))
+      | in-Matching w ↦ subst (λ (t : Transition). Walked a cells at t c.places.end c.match-at.end) (sym w.step-is)
+          (subst (λ (o : Option ℕ). Walked a cells at w.in-Matching.step c.places.end o) (sym w.end-is)
+          (walked_found a cells at c.places.row byte column w.in-Matching.step c.requires.followed c.requires.kept c.places.invariant.row placed starts r
+          (w.in-Matching.ensures cells.cells.items cells.table at.next side byte view c.requires.kept.bounded.told low starts.2 seen) c.places.end))
     ] in
     let e = sym c.stand_after-at.ensures in
     record {
       row = subst (λ (st : Stand). st.next < length cells.rows.lists.items) e walked.row;
       placed = subst (IsPlaced a cells) e walked.placed;
-      starts = subst (λ (st : Stand). step.ahead ≡ st.next * classes.width) e spread;
-      low = omega arith;
+      starts = subst (λ (st : Stand). IsStart (context_in a) st.place classes st.next step.ahead) e walked.starts;
       forth = omega (arith, c.places.invariant.forth, ap (λ (st : Stand). st.place) c.stand_after-at.ensures);
       found = λ some. elim c.match-at.branch [
         | in-Quiet w ↦ ap (λ (o : Option ℕ). is_some o) w.end-is ∙ c.places.invariant.found some

@@ -1,4 +1,6 @@
-use Rattle.std.proofs.Common.{◌≡◌, ◌-◌, ◌*◌, ◌<◌, ◌≤◌, length, true, is_some}
+use Rattle.std.proofs.Common.{◌≡◌, ◌-◌, ◌<◌, ◌≤◌, length, true, is_some}
+use Rattle.fancy_code.specs.Attempt.{context_in}
+use Rattle.fancy_alphabet.specs.Classes.{IsStart}
 use Rattle.fancy_automaton.specs.Cells.{ways_at}
 use Rattle.fancy_automaton.specs.Decided.{Decided, Goal, IsDecided, IsPlaced, Opens}
 use Rattle.fancy_automaton.proofs.follow.lengthen.Given as goal
@@ -7,8 +9,7 @@ abbrev pub invariant-places : goal.invariant-places
 invariant-places l = record {
   row : l.at.next < length l.cells.rows.lists.items;
   placed : IsPlaced l.attempt l.cells l.at;
-  starts : l.row ≡ l.at.next * l.cells.table.classes.width;
-  low : l.row < 9223372036854775808;
+  starts : IsStart (context_in l.attempt) l.at.place l.cells.table.classes l.at.next l.row;
   forth : l.fn.from.stand.place ≤ l.at.place;
   found : is_some l.fn.from.end ≡ true → is_some l.end ≡ true;
   decided : (goal : Goal) → IsDecided l.attempt l.cells goal l.fn.from

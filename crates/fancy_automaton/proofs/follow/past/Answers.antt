@@ -1,4 +1,4 @@
-use Rattle.std.proofs.Common.{◌≡◌, ◌*◌, ◌∙◌, List, ap, arith, get_or, replicate, length, Option, Some, ℕ, subst, sym}
+use Rattle.std.proofs.Common.{List, ap, arith, get_or, replicate, length, Option, Some, ℕ, subst, sym}
 use Rattle.fancy_alphabet.proofs.NumberLemmas.{seen_low}
 use Rattle.fancy_alphabet.specs.Sides.{seen_as}
 use Rattle.fancy_automaton.specs.declared.hop.Stand.{Stand}
@@ -16,15 +16,14 @@ returns c =
     let here = subst (λ (o : Option ℕ). (ways : List ℕ) × IsAt a cells at ways (replicate (length ways) c.args.at.start) (match_from c.args.at.start o)) c.requires.nothing c.requires.sole in
     let is = here.1 in
     let column = c.in_ok-column.column in
-    let r = reads a cells at c.view-table.result at.begun column is.followed c.view-table.ensures.view (omega arith) (sym c.in_ok-column.ensures) in
-    let starts : c.start.result ≡ at.begun * cells.table.classes.width = c.start.ensures.start ∙ ap (λ (w : ℕ). at.begun * w) c.view-table.ensures.view.2 in
-    let told = c.in-Matching.ensures.told cells.cells.items cells.table at.begun (seen_as cells.table.classes.tests is.begins.0) byte c.view-table.ensures.view is.kept.told starts (seen_low cells.table.classes.tests is.begins.0) is.begins.2 (sym c.in_ok-column.ensures) in
+    let r = reads a cells at c.view-table.result at.begun column is.followed c.view-table.ensures (omega arith) (sym c.in_ok-column.ensures) in
+    let told = c.in-Matching.ensures cells.cells.items cells.table at.begun (seen_as cells.table.classes.tests is.begins.0) byte c.view-table.ensures is.kept.told (seen_low cells.table.classes.tests is.begins.0) is.begins.2 (sym c.in_ok-column.ensures) in
     record {
       sole = subst (λ (st : Stand). IsSole a cells (record { stand = st; start = c.match-step.start; end = Some at.place })) (sym c.stand_after.ensures)
           (elim c.match-step.branch [
-            | in-Last w ↦ subst (λ (s : ℕ). IsSole a cells (record { stand = stood at column c.in-Matching.step; start = s; end = Some at.place })) (sym w.start-is)
+            | in-Last w ↦ subst (λ (s : ℕ). IsSole a cells (record { stand = stood at c.in-Matching.step; start = s; end = Some at.place })) (sym w.start-is)
                 (found_last a cells at byte column c.in-Matching.step here.0 _ is r told w.in-Last.is)
-            | in-Earlier w ↦ subst (λ (s : ℕ). IsSole a cells (record { stand = stood at column c.in-Matching.step; start = s; end = Some at.place })) (sym w.start-is)
+            | in-Earlier w ↦ subst (λ (s : ℕ). IsSole a cells (record { stand = stood at c.in-Matching.step; start = s; end = Some at.place })) (sym w.start-is)
                 (found_earlier a cells at byte column c.in-Matching.step here.0 c.args.at.start is r told w.in-Earlier.is)
           ]);
       forth = omega (arith, ap (λ (st : Stand). st.place) c.stand_after.ensures);

@@ -1,12 +1,10 @@
-use Rattle.std.proofs.Common.{◌≡◌, ◌-◌, ◌*◌, ◌<◌, ◌≤◌, None}
+use Rattle.std.proofs.Common.{◌-◌, ◌≤◌, None}
 use Rattle.fancy_automaton.specs.Sole.{IsSole}
 use Rattle.fancy_automaton.proofs.follow.seek.Given as goal
 
 abbrev pub invariant-places : goal.invariant-places
 invariant-places l = record {
   sole : IsSole l.attempt l.cells (record { stand = l.at; start = l.start; end = None });
-  starts : l.row ≡ l.at.begun * l.cells.table.classes.width;
-  low : l.row < 9223372036854775808;
   forth : l.fn.from.stand.place ≤ l.at.place;
 }
 

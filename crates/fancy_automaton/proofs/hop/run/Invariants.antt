@@ -1,6 +1,6 @@
-use Rattle.std.proofs.Common.{◌-◌, ◌+◌, ◌*◌, ◌≡◌, ◌<◌, ◌≤◌, List, length, true}
+use Rattle.std.proofs.Common.{◌-◌, ◌+◌, ◌≡◌, ◌<◌, ◌≤◌, List, length, true}
 use Rattle.fancy_code.specs.Attempt.{context_in, may_end_in}
-use Rattle.fancy_alphabet.specs.Classes.{IsFirst}
+use Rattle.fancy_alphabet.specs.Classes.{IsStart}
 use Rattle.fancy_automaton.specs.declared.cells.Cell.{Cell}
 use Rattle.fancy_automaton.specs.declared.trail.Trail.{Trail}
 use Rattle.fancy_automaton.specs.Cells.{row_if}
@@ -11,10 +11,9 @@ use Rattle.fancy_automaton.proofs.hop.run.Given as goal
 abbrev pub invariant-places : goal.invariant-places
 invariant-places l = record {
   front : IsFront l.attempt l.cells (front_at l.at l.trail l.hit) l.at.place l.at.place;
-  begins : IsFirst (context_in l.attempt) l.at.place l.cells.table.classes l.at.first;
   good : may_end_in l.attempt l.at.place ≡ true;
-  starts : (cells : List Cell) (trail : Trail) → l.row ≡ row_if (found_in_trail cells trail l.hit) l.at.next l.at.begun * l.cells.table.classes.width;
-  low : l.row < 9223372036854775808;
+  starts : (cells : List Cell) (trail : Trail)
+      → IsStart (context_in l.attempt) l.at.place l.cells.table.classes (row_if (found_in_trail cells trail l.hit) l.at.next l.at.begun) l.row;
   passed : l.fn.from.place ≤ l.at.place;
   within : l.at.place ≤ l.attempt.last;
   visits : length l.trail.visits.items + l.fn.from.place ≤ length l.fn.trail.visits.items + l.at.place;

@@ -11,7 +11,7 @@ returns-clause-sole c = (
     waits = c.requires.rows.waits;
     opens = c.requires.rows.opens;
     going = c.requires.going;
-    begins = c.first_at.ensures;
+    begins = c.row_start.ensures;
     good = c.requires.good;
     within = c.requires.within;
   },

@@ -18,4 +18,4 @@ returns-clause-sole c =
     sole_front c.args.attempt.now c.args.cells.now f c.stand.result c.args.place start c.match-self.end c.requires.stands
     (subst (λ (cells : List Cell). starts_in cells f.trail ≡ replicate (length (starts_in cells f.trail)) start) value c.in_ok-start.ensures.starts)
     (subst (λ (cells : List Cell). found_in_trail cells f.trail f.hit ≡ match_from start (end_of f.hit)) value c.in_ok-start.ensures.found ∙ ap (match_from start) end)
-    c.stand.ensures.place c.stand.ensures.next c.stand.ensures.begun c.stand.ensures.first
+    c.stand.ensures.place c.stand.ensures.next c.stand.ensures.begun c.stand.ensures.opened

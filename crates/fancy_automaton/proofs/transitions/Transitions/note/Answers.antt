@@ -3,9 +3,9 @@ use Rattle.fancy_automaton.proofs.TransitionLemmas.{told_noted, told_same}
 use Rattle.fancy_automaton.proofs.transitions.Transitions.note.Goals as goal
 
 pub returns-clause-told : goal.returns-clause-told
-returns-clause-told c cells told is far =
+returns-clause-told c cells told is =
     told_noted cells c.args.self.now c.reserve.new.self _ c.args.row c.in-Some.column c.args.sight c.args.entry c.in-Some.ensures
-    c.in_ok-reserve.ensures.classes c.in_ok-reserve.ensures.same c.in_ok-reserve.ensures.room refl refl told is far
+    c.in_ok-reserve.ensures.classes c.in_ok-reserve.ensures.same c.in_ok-reserve.ensures.room refl refl told is
 
 pub returns-in_err-reserve-clause-told : goal.returns-in_err-reserve-clause-told
-returns-in_err-reserve-clause-told c cells told is far = told_same cells c.args.self.now c.reserve.new.self c.in_err-reserve.ensures.classes c.in_err-reserve.ensures.same told
+returns-in_err-reserve-clause-told c cells told is = told_same cells c.args.self.now c.reserve.new.self c.in_err-reserve.ensures.classes c.in_err-reserve.ensures.same told
