@@ -13,7 +13,7 @@ ghost use Rattle.fancy_automaton.specs.Search.{BegunIn, Passes, IsFollowed, ends
 use crate::cells::{Cells, origin, restart, seen_at, step_at};
 use crate::follow::{Sole, lengthen};
 use crate::front::place_after;
-use crate::hop::{Stand, idle_row, row_start};
+use crate::hop::{Stand, row_start};
 use crate::trail::span_from;
 use fancy_code::attempt::Attempt;
 use fancy_code::options::is_match_boundary;
@@ -147,7 +147,7 @@ fn advance(
     if is_idle(cells, to.stand) {
         return Ok(to);
     }
-    Ok(lengthen(attempt, cells, to, idle_row(cells)))
+    Ok(lengthen(attempt, cells, to))
 }
 
 /// Where the match begins and ends that begins at the first place, if there is one. No way begins at a later place.
@@ -187,7 +187,7 @@ pub(crate) fn span_at(
         start: place,
         end: None,
     };
-    let mut at = lengthen(attempt, cells, from, origin.next);
+    let mut at = lengthen(attempt, cells, from);
     'places: loop {
         if is_idle(cells, at.stand) {
             cells.reached = at.stand.place;

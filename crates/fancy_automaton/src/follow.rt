@@ -221,8 +221,10 @@ fn past(attempt: &Attempt, cells: &Cells, at: Sole, idle: usize) -> Option<Sole>
     })
 }
 
-/// Goes on where no way begins any more, as long as some way waits: after a match was found, and where a search is anchored.
-pub(crate) fn lengthen(attempt: &Attempt, cells: &Cells, from: Sole, idle: usize) -> Sole
+/// Goes on where no way begins any more: after a match was found, and where a search is anchored. Where no way waits the table tells
+/// no step, since none is asked there.
+#[inline(always)]
+pub(crate) fn lengthen(attempt: &Attempt, cells: &Cells, from: Sole) -> Sole
     requires followed { IsFollowed attempt.now }
     requires kept { HoldsFor cells.now attempt.now.code.now }
     requires row { from.stand.next < length cells.now.rows.lists.items }
@@ -241,7 +243,7 @@ pub(crate) fn lengthen(attempt: &Attempt, cells: &Cells, from: Sole, idle: usize
     let mut at = from.stand;
     let mut row = ahead_of(attempt, cells, at);
     let mut end = from.end;
-    'places: while at.place < attempt.last && at.next != idle {
+    'places: while at.place < attempt.last {
         let Some(column) = table.column(haystack[at.place]) else {
             break 'places;
         };
@@ -277,5 +279,5 @@ pub(crate) fn follow(attempt: &Attempt, cells: &Cells, from: Sole) -> Sole
             Some(next) => at = next,
         }
     }
-    lengthen(attempt, cells, at, idle)
+    lengthen(attempt, cells, at)
 }
