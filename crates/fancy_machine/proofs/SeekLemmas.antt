@@ -4,7 +4,6 @@ use Rattle.std.proofs.Math.Logic.{∥∥₁_elim}
 use Rattle.std.proofs.Props.{props}
 use Rattle.fancy_input.specs.declared.input.Request.{Request}
 use Rattle.fancy_input.specs.Requests.{effective_start}
-use Rattle.fancy_input.specs.Lines.{byte_before}
 use Rattle.fancy_code.specs.declared.code.Code.{Code}
 use Rattle.fancy_code.specs.declared.options.SearchOptions.{SearchOptions}
 use Rattle.fancy_code.specs.Compile.{IsCodeOf}
@@ -17,7 +16,7 @@ use Rattle.fancy_code.specs.Tried.{may_begin, tried, NoneTried}
 use Rattle.fancy_code.proofs.SkipLemmas.{skip_none}
 use Rattle.fancy_code.proofs.TriedLemmas.{passed_over}
 use Rattle.fancy_prices.specs.declared.price.Price.{Price}
-use Rattle.fancy_prices.specs.Entries.{AreEntries, EntryTest, IsNextEntry, IsPassed, IsToldAt}
+use Rattle.fancy_prices.specs.Entries.{AreEntries, EntryTest, IsNextEntry, IsPassed, IsToldAt, IsToldOf}
 use Rattle.fancy_prices.specs.Prices.{CostsAt, CostsNothingAt}
 use Rattle.fancy_machine.specs.declared.attempt.Attempt.{Attempt}
 use Rattle.fancy_machine.specs.Asked.{Serves}
@@ -54,7 +53,7 @@ module _ (q : Query) (code : Code) (options : SearchOptions) (haystack : List �
   price_of : IsCodeOf q.sought.pattern code → (k : ℕ) → (passed : IsPassed entry haystack request.range_end k) → CostsAt q k passed.0
   price_of of k passed =
       are q of (ap (λ (r : Query). r.sought.meaning) is) (omega (arith, inside, ends, ap length here)) (λ p. subst (λ (h : List ℕ). slice_index h p < 256) here (bytes p))
-      k (omega (arith, passed.1.0, ends)) passed.0 (subst (λ (h : List ℕ). entry (byte_before h k) (slice_index h k) passed.0) here passed.1.1)
+      k (omega (arith, passed.1.0, ends)) passed.0 (subst (λ (h : List ℕ). IsToldOf entry h k passed.0) here passed.1.1)
     where
       here : haystack ≡ q.haystack
       here = sym (ap (λ (r : Query). r.haystack) is)
@@ -98,7 +97,7 @@ told_costs q a serves some inside bytes entry are range_end range p c told =
     costs : IsCodeOf q.sought.pattern a.code.now → CostsAt q p c
     costs of =
         are q of (sym (ap (λ (x : Context). x.meaning) serves.context)) inside (λ k. subst (λ (h : List ℕ). slice_index h k < 256) here (bytes k))
-        p (omega (arith, told.0, range)) c (subst (λ (h : List ℕ). entry (byte_before h p) (slice_index h p) c) here told.1)
+        p (omega (arith, told.0, range)) c (subst (λ (h : List ℕ). IsToldOf entry h p c) here told.1)
 
 -- a position that is tried is one of them
 pub tried_somewhere : (q : Query) (seek : Bool) (request : Request) (p : ℕ) → q.request ≡ request → NoneTried seek q → effective_start request ≤ p → p ≤ request.range_end → tried seek q p ≡ true → ⊥

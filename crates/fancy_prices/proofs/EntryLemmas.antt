@@ -1,5 +1,5 @@
 -- The positions at which an attempt must be made, by what the code costs at the others.
-use Rattle.std.proofs.Common.{◌≡◌, ℕ, zero, suc, ◌+◌, ◌^◌, ◌*◌, ◌<◌, ◌≤◌, ◌==◌, Bool, true, false, not, ◌&&◌, List, [], ◌∷◌, length, Option, Some, None, IfSome, refl, sym, ap, subst, ◌∙◌, arith, true≢false, slice_get, slice_index, slice_set, ◌⊎◌, inl, inr, get_or-set_same, get_or-set_other, ne_eqb}
+use Rattle.std.proofs.Common.{◌≡◌, ℕ, zero, suc, ◌+◌, ◌-◌, ◌^◌, ◌*◌, ◌<◌, ◌≤◌, ◌==◌, Bool, true, false, not, ◌&&◌, List, [], ◌∷◌, length, Option, Some, None, IfSome, refl, sym, ap, subst, ◌∙◌, arith, true≢false, slice_get, slice_index, slice_set, replicate, ◌⊎◌, inl, inr, get_or-set_same, get_or-set_other, ne_eqb}
 use Rattle.std.specs.Prelude.{bit_and, bit_or, max, slice_index_or}
 use Rattle.std.specs.Int.Bits.{and_zero_l}
 use Rattle.std.specs.Int.{bit_at}
@@ -7,12 +7,13 @@ use Rattle.std.proofs.lemmas.Bool.{cases_eq, cases_lt}
 use Rattle.std.proofs.lemmas.Nat.Bits.{and_pow, bit_at_or}
 use Rattle.std.proofs.lemmas.Option.{IfSome_then, slice_get-get_or}
 use Rattle.fancy_input.specs.Lines.{byte_before}
+use Rattle.fancy_input.specs.Places.{is_continuation}
 use Rattle.fancy_bytes.specs.Sets.{ByteFlags, member}
 use Rattle.fancy_prefilter.specs.Seeks.{IsNextSeen, NoneSeenBefore}
 use Rattle.fancy_code.specs.declared.code.Code.{Code}
 use Rattle.fancy_code.specs.Code.{instrs_of}
-use Rattle.fancy_code.specs.Compile.{IsCodeOf}
-use Rattle.fancy_code.specs.Search.{Query}
+use Rattle.fancy_code.specs.Compile.{IsCodeOf, depth}
+use Rattle.fancy_code.specs.Search.{Query, context_of, initial}
 use Rattle.fancy_prices.specs.declared.facts.Before.{Before}
 use Rattle.fancy_prices.specs.declared.facts.Before.TheVariants.{Nothing, LineFeed, CarriageReturn, Letter, Digit, Blank, Other, Wide}
 use Rattle.fancy_prices.specs.declared.entries.Prices.{Prices}
@@ -20,10 +21,10 @@ use Rattle.fancy_prices.specs.declared.entries.Told.{Told}
 use Rattle.fancy_prices.specs.declared.price.Price.{Price}
 use Rattle.fancy_prices.specs.Facts.{IsOfKind, bit_of}
 use Rattle.fancy_prices.specs.Prices.{CostsAt, IsNothing}
-use Rattle.fancy_prices.specs.Entries.{AreEntries, ArePassed, CostsWithout, HasKind, HaveKinds, IsNextCostly, IsNextEntry, IsPassed, TellsByte, TellsKinds, TellsRow, bit_before, is_after, is_told, kind_before, price_in, price_told}
+use Rattle.fancy_prices.specs.Entries.{AreEntries, ArePassed, CostsWithout, HasKind, HaveKinds, IsNextCostly, IsNextEntry, IsPassed, TellsBehind, TellsByte, TellsKinds, TellsRow, TellsRowBehind, bit_before, is_after, is_told, kind_before, price_behind, price_in, price_told}
 use Rattle.fancy_prices.proofs.DyingWays.{dies_told}
 use Rattle.fancy_prices.proofs.BeginLemmas.{get_index}
-use Rattle.fancy_prices.proofs.PriceLemmas.{price_costs, told_counted}
+use Rattle.fancy_prices.proofs.PriceLemmas.{costs_counted, price_costs, told_counted}
 
 -- a kind has its own bit
 pub own_bit : (k : Before) → bit_and (bit_of k) (bit_of k) ≡ 0 → ⊥
@@ -102,7 +103,7 @@ no_bit true x e none =
 module _ (t : Told) (h : List ℕ) where
   -- of a place past which the range ends
   passed_here : (to k : ℕ) → k < to → (member t.bytes (slice_index h k) && is_after t.after t.kinds (byte_before h k) (slice_index h k)) ≡ false → IsPassed (is_told (Some t)) h to k
-  passed_here to k lt none = (record { marks = 0; returns = 0 }, (lt, inr (none, (refl, refl))), (refl, refl))
+  passed_here to k lt none = (record { marks = 0; returns = 0 }, (lt, inr (inr (none, (refl, refl)))), (refl, refl))
 
   never : (b : Bool) → (b && false) ≡ false
   never true = refl
@@ -196,7 +197,7 @@ module _ (bytes : ByteFlags) (after kinds : List ℕ) (prices : Option Prices) (
     (none : (b : ℕ) → b < 256 → member bytes b ≡ false → slice_index after b ≡ 0)
     (without : (b : ℕ) → b < 256 → (kind : Before) → CostsWithout rows b (slice_index after b) kind)
     (own : (b : ℕ) → b < 256 → HasKind (slice_index kinds b) (Some b))
-    (kept : IfSome prices (λ t. HaveKinds t.kinds × (t.rows ≡ rows))) where
+    (kept : IfSome prices (λ t. HaveKinds t.kinds × (t.rows ≡ rows))) (behind : Option (List (Option Price))) (tells_behind : IfSome behind (TellsRowBehind code)) where
   module _ (q : Query) (is : IsCodeOf q.sought.pattern code) (meant : q.sought.meaning ≡ code.meaning) (inside : q.request.range_end ≤ length q.haystack)
       (small : (k : ℕ) → slice_index q.haystack k < 256) (p : ℕ) (lt : p < q.request.range_end) where
     abbrev here : ℕ
@@ -218,6 +219,17 @@ module _ (bytes : ByteFlags) (after kinds : List ℕ) (prices : Option Prices) (
         costs_at (kind_before t.kinds before) (kind_is t.kinds are.0 before (small_before q.haystack p small)) c
         (subst (λ (l : List (List (Option Price))). price_in l (kind_before t.kinds before) here ≡ Some c) are.1 e)
 
+    by_behind : (row : Option (List (Option Price))) → IfSome row (TellsRowBehind code) → (second : Option ℕ) → byte_before q.haystack (p - 1) ≡ second → is_continuation here ≡ false
+        → (c : Price) → price_behind row second ≡ Some c → CostsAt q p c
+    by_behind None told second stands whole c e = cc
+    by_behind (Some row) told None stands whole c e = cc
+    by_behind (Some row) told (Some b) stands whole c e =
+        let tell : TellsBehind code b (Some c) = subst (TellsBehind code b) e (told b (subst (λ (o : Option ℕ). IfSome o (λ d. d < 256)) stands (small_before q.haystack (p - 1) small))) in
+        price_costs q p c
+        (costs_counted q code is meant inside p c.marks c.returns (omega (arith, lt))
+        (tell (context_of q) q.request.range_end (depth (length q.haystack) q.sought.pattern + 1) (initial q p) (replicate code.groups 0) stands))
+        (λ inner. absurd (true≢false (sym inner ∙ whole)))
+
     by_bits : (member bytes here && is_after after kinds before here) ≡ false → (c : Price) → IsNothing c → CostsAt q p c
     by_bits passed c is_nothing =
         let kind = bit_has kinds own before (small_before q.haystack p small) in
@@ -228,9 +240,13 @@ module _ (bytes : ByteFlags) (after kinds : List ℕ) (prices : Option Prices) (
         let costs = costs_at kind.0 kind.1 free.0 free.1 in
         record { none = costs.none; marks = omega (arith, costs.marks, free.2.0); returns = costs.returns ∙ free.2.1 ∙ sym is_nothing.1 }
 
-  pub entries_of : AreEntries (λ before here c. (price_told prices before here ≡ Some c) ⊎ (((member bytes here && is_after after kinds before here) ≡ false) × IsNothing c)) code
+  pub entries_of : AreEntries (λ second before here c. (price_told prices before here ≡ Some c)
+      ⊎ (((is_continuation here ≡ false) × (price_behind behind second ≡ Some c)) ⊎ (((member bytes here && is_after after kinds before here) ≡ false) × IsNothing c))) code
   entries_of q is meant inside small p lt c told =
       elim told [
         | inl priced ↦ by_price q is meant inside small p lt prices kept c priced
-        | inr passed ↦ by_bits q is meant inside small p lt passed.0 c passed.1
+        | inr other ↦ elim other [
+          | inl by ↦ by_behind q is meant inside small p lt behind tells_behind (byte_before q.haystack (p - 1)) refl by.0 c by.1
+          | inr passed ↦ by_bits q is meant inside small p lt passed.0 c passed.1
+        ]
       ]

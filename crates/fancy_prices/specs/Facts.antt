@@ -1,6 +1,6 @@
 -- What is told where an attempt stands: the byte there, and what stands before it.
 use Prim.Native.Char.{code}
-use Rattle.std.specs.Prelude.{◌≡◌, ℕ, Bool, true, false, not, ◌&&◌, ◌||◌, nat_le, nat_lt, List, Option, Some, None, IfSome, slice_get, ◌==◌}
+use Rattle.std.specs.Prelude.{◌≡◌, ℕ, ◌-◌, Bool, true, false, not, ◌&&◌, ◌||◌, nat_le, nat_lt, List, Option, Some, None, IfSome, slice_get, ◌==◌}
 use Rattle.std.specs.Char.{is_ascii_digit}
 use Rattle.unicode.specs.Perl.{is_word_byte}
 use Rattle.fancy_tree.specs.declared.tree.Assertion.{Assertion}
@@ -9,6 +9,8 @@ use Rattle.fancy_input.specs.Lines.{byte_before, is_line_feed, is_carriage_retur
 use Rattle.fancy_code.specs.Context.{Context, holds, word_before, word_after}
 use Rattle.fancy_prices.specs.declared.facts.Before.{Before}
 use Rattle.fancy_prices.specs.declared.facts.Before.TheVariants.{Nothing, LineFeed, CarriageReturn, Letter, Digit, Blank, Other, Wide}
+use Rattle.fancy_prices.specs.declared.facts.Ending.{Ending}
+use Rattle.fancy_prices.specs.declared.facts.Ending.TheVariants.{Last, Second}
 use Rattle.fancy_prices.specs.declared.facts.Facts.{Facts}
 
 -- a byte that passes the test
@@ -29,6 +31,11 @@ IsOfKind Digit o = IsByteOf is_ascii_digit o
 IsOfKind Blank o = IsByteOf is_blank o
 IsOfKind Other o = IsByteOf (λ b. nat_lt b 0x80 && not ((is_word_byte b || is_blank b) || (is_line_feed (Some b) || is_carriage_return (Some b)))) o
 IsOfKind Wide o = IsByteOf (nat_le 0x80) o
+
+-- the text before a place ends so: its last byte is of the kind, or this is the byte before its last one
+abbrev pub IsEnding : Ending → List ℕ → ℕ → Type 0
+IsEnding (Last kind) haystack p = IsOfKind kind (byte_before haystack p)
+IsEnding (Second b) haystack p = byte_before haystack (p - 1) ≡ Some b
 
 -- what is of the kind is a byte that passes the test
 abbrev pub IsAlways : Before → (ℕ → Bool) → Type 0

@@ -1,17 +1,17 @@
 -- What code costs where all of its ways die, and what is told of a place tells of that.
-use Rattle.std.specs.Prelude.{◌≡◌, ℕ, suc, ◌-◌, ◌≤◌, ◌==◌, Bool, true, false, ◌&&◌, List, [], ◌∷◌, length, Option, Some, None, if◌then◌else◌, nat_lt, slice_index}
+use Rattle.std.specs.Prelude.{◌≡◌, ℕ, suc, ◌-◌, ◌<◌, ◌≤◌, ◌==◌, Bool, true, false, ◌&&◌, List, [], ◌∷◌, length, Option, Some, None, if◌then◌else◌, nat_lt, slice_index}
 use Rattle.fancy_tree.specs.declared.tree.Meaning.{Meaning}
 use Rattle.fancy_bytes.specs.Items.{encoding}
 use Rattle.fancy_code.specs.Context.{Context, State}
 use Rattle.fancy_code.specs.Events.{Event, any, ends_look, marks_in, returns_in}
-use Rattle.fancy_code.specs.Instructions.{Instruction, Back, Match, Member}
+use Rattle.fancy_code.specs.Instructions.{Instruction, Back, Character, Match, Member}
 use Rattle.fancy_code.specs.Run.{Raw, Note, Stop, choice_opened, returned, fetched, instr_at, run}
+use Rattle.fancy_prices.specs.declared.facts.Ending.{Ending}
 use Rattle.fancy_prices.specs.declared.facts.Facts.{Facts}
 use Rattle.fancy_prices.specs.declared.facts.Before.{Before}
 use Rattle.fancy_prices.specs.declared.price.Price.{Price}
 use Rattle.fancy_tree.specs.Sets.{has}
-use Rattle.fancy_prices.specs.Facts.{IsAlways, IsOfKind, Stands}
-use Rattle.fancy_input.specs.Lines.{byte_before}
+use Rattle.fancy_prices.specs.Facts.{IsAlways, IsEnding, IsOfKind, Stands}
 use Rattle.fancy_code.specs.Search.{Query, answer_at, choices_at, gone_through, is_match_boundary, returns_at}
 
 -- no choice is opened
@@ -52,10 +52,10 @@ Quiet (Some w) = IsQuietIn w
 abbrev pub IsQuiet : List Instruction → ℕ → Type 0
 IsQuiet code q = (x : Context) (limit n : ℕ) (s : State) (v : List ℕ) → Quiet (run x limit code n q s v)
 
--- From q on the code counts so many marks and returns, and stops at no place behind what is of this kind.
-abbrev pub StopsNeverBehind : List Instruction → Before → ℕ → ℕ → ℕ → Type 0
-StopsNeverBehind code kind m r q =
-    (x : Context) (limit n : ℕ) (s : State) (v : List ℕ) (p : ℕ) → IsOfKind kind (byte_before x.haystack p)
+-- From q on the code counts so many marks and returns, and stops at no place before which the text ends so.
+abbrev pub StopsNeverBehind : List Instruction → Ending → ℕ → ℕ → ℕ → Type 0
+StopsNeverBehind code ending m r q =
+    (x : Context) (limit n : ℕ) (s : State) (v : List ℕ) (p : ℕ) → IsEnding ending x.haystack p
     → Misses (λ t. t.place == p) m r (run x limit code n q s v)
 
 -- the code reads an item and stops, and each byte of this kind is such an item
@@ -63,6 +63,10 @@ abbrev pub ReadsEach : List Instruction → Before → ℕ → Type 0
 ReadsEach code kind q =
     (edges : List ℕ) × (next : ℕ) × (instr_at code q ≡ Member edges next) × (instr_at code next ≡ Match)
     × IsAlways kind (λ b. nat_lt b 128 && has edges b)
+
+-- the code reads an ASCII character and stops
+abbrev pub ReadsLow : List Instruction → ℕ → Type 0
+ReadsLow code q = (c : ℕ) × (next : ℕ) × (instr_at code q ≡ Character c next) × (instr_at code next ≡ Match) × (c < 128)
 
 -- the same once it went back over one item
 abbrev pub FindsBehind : List Instruction → Before → ℕ → Type 0
@@ -95,6 +99,10 @@ FindsNone code meaning behind f m r q =
 abbrev pub last_byte : Meaning → ℕ → ℕ
 last_byte meaning c = slice_index (encoding meaning c) (length (encoding meaning c) - 1)
 
+-- an item with this code does not end with the byte
+abbrev pub EndsNotWith : ℕ → ℕ → Type 0
+EndsNotWith c b = (meaning : Meaning) → last_byte meaning c ≡ b → ⊥
+
 -- an item with this code ends with no byte of the kind
 abbrev pub EndsOtherwise : Before → ℕ → Type 0
 EndsOtherwise kind c = (meaning : Meaning) → IsOfKind kind (Some (last_byte meaning c)) → ⊥
@@ -104,6 +112,10 @@ abbrev pub Dies : List Instruction → Meaning → Facts → ℕ → ℕ → ℕ
 Dies code meaning f m r q =
     (x : Context) (limit n : ℕ) (s : State) (v : List ℕ) → x.meaning ≡ meaning → Stands f x.haystack s.place
     → Costs m r (run x limit code n q s v)
+
+-- Where the text before a place ends so, the code from q on dies there, and counts so many marks and returns.
+abbrev pub DiesBehind : List Instruction → Ending → ℕ → ℕ → ℕ → Type 0
+DiesBehind code ending m r q = (x : Context) (limit n : ℕ) (s : State) (v : List ℕ) → IsEnding ending x.haystack s.place → Costs m r (run x limit code n q s v)
 
 -- no item that passes the test begins with the byte
 abbrev pub BeginsNone : Meaning → (ℕ → Bool) → ℕ → Type 0

@@ -1,15 +1,15 @@
 //! The positions at which a search must enter the code: at each other one an attempt finds nothing, and what it costs is told.
 
-ghost use Rattle.std.specs.Prelude.{◌≡◌, ℕ, ◌+◌, ◌<◌, ◌≤◌, true, false, None, Some, IfOk, IfSome, MatchOption, length, slice_index};
+ghost use Rattle.std.specs.Prelude.{◌≡◌, ℕ, ◌+◌, ◌-◌, ◌<◌, ◌≤◌, true, false, None, Some, IfOk, IfSome, MatchOption, length, slice_index};
 ghost use Rattle.fancy_input.specs.Lines.{byte_before};
 ghost use Rattle.fancy_input.specs.Places.{is_continuation};
 ghost use Rattle.fancy_code.specs.declared.code.Code.{Code};
 ghost use Rattle.fancy_bytes.specs.Sets.{member};
 ghost use Rattle.fancy_prices.specs.declared.facts.Before.{Before};
-ghost use Rattle.fancy_prices.specs.Entries.{ArePassed, AreEntries, CostsWithout, HasKind, HaveKinds, IsNextEntry, IsNextCostly, IsToldAt, TellsByte, TellsKinds, TellsRow, bit_before, is_after, is_entry, price_after, unboxed};
+ghost use Rattle.fancy_prices.specs.Entries.{ArePassed, AreEntries, CostsWithout, HasKind, HaveKinds, IsNextEntry, IsNextCostly, IsToldAt, IsToldOf, TellsByte, TellsKinds, TellsRow, TellsRowBehind, bit_before, is_after, is_entry, is_told, price_after, price_behind, unboxed};
 
-use crate::facts::{Before, Facts};
-use crate::free::{price_of, tests_before};
+use crate::facts::{Before, Ending, Facts};
+use crate::free::{price_behind, price_of, tests_before};
 use crate::price::Price;
 use fancy_bytes::byte_set::ByteSet;
 use fancy_code::code::Code;
@@ -50,6 +50,8 @@ struct Told {
     kinds: [u8; 256],
     // none where nothing is told of those attempts
     prices: Option<Prices>,
+    // what attempts cost by the byte before the one before their position; none where it tells nothing
+    behind: Option<[Option<Price>; 256]>,
 }
 
 /// What attempts cost, by what stands before and the byte at which they are made.
@@ -123,6 +125,38 @@ fn rows_of(code: &Code) -> [[Option<Price>; 256]; 8]
         prices_after(code, &plain, Before::Other),
         prices_after(code, &plain, Before::Wide),
     ]
+}
+
+/// What an attempt costs by the byte before the one before its position.
+fn row_behind(code: &Code) -> [Option<Price>; 256]
+    ensures { TellsRowBehind code.now result }
+{
+    let mut row = [None; 256];
+    for byte in 0..256u32 {
+        row[byte as usize] = price_behind(code, Ending::Second(byte as u8), DEPTH);
+    }
+    row
+}
+
+/// Whether a row tells something. No answer rests on it.
+fn tells_some(row: &[Option<Price>; 256]) -> bool {
+    for price in row {
+        if price.is_some() {
+            return true;
+        }
+    }
+    false
+}
+
+/// The same, if it is told of some byte.
+fn prices_behind(code: &Code) -> Option<[Option<Price>; 256]>
+    ensures { IfSome result (TellsRowBehind code.now) }
+{
+    let row = row_behind(code);
+    if !tells_some(&row) {
+        return None;
+    }
+    Some(row)
 }
 
 /// The bit of this kind where an attempt at the byte costs something after it, or may find a match; else no bit.
@@ -232,6 +266,36 @@ fn bytes_with_some(after: &[u8; 256]) -> ByteSet
 }
 
 impl Told {
+    /// What an attempt costs at a place, if the byte before the one before it tells that. It is told of no place within a character.
+    #[inline]
+    fn price_behind(&self, haystack: &[u8], place: usize) -> Option<Price>
+        requires { place < length haystack.now }
+        ensures { IfSome result (λ c. (is_continuation (slice_index haystack.now place) ≡ false)
+            × (price_behind self.now.behind (byte_before haystack.now (place - 1)) ≡ Some c)) }
+    {
+        let Some(row) = &self.behind else {
+            return None;
+        };
+        if place < 2 || is_continuation(haystack[place]) {
+            return None;
+        }
+        row[haystack[place - 2] as usize]
+    }
+
+    /// What an attempt costs at a place, if that is told.
+    #[inline]
+    fn price(&self, haystack: &[u8], place: usize) -> Option<Price>
+        requires { place < length haystack.now }
+        ensures { IfSome result (IsToldOf (is_told (Some self.now)) haystack.now place) }
+    {
+        if let Some(prices) = &self.prices {
+            if let Some(price) = prices.at(haystack, place) {
+                return Some(price);
+            }
+        }
+        self.price_behind(haystack, place)
+    }
+
     /// The bit of the kind of what stands before a place.
     #[inline]
     fn kind_before(&self, haystack: &[u8], place: usize) -> u8
@@ -347,11 +411,13 @@ impl Entries {
         }
         let bytes = bytes_with_some(&after);
         let kinds = bit_of_each();
+        let behind = prices_behind(code);
         let told = Told {
             bytes: Scan::new(bytes),
             after,
             kinds,
             prices,
+            behind,
         };
         Ok(Entries {
             told: Some(Box::new(alloc, told)?),
@@ -379,13 +445,10 @@ impl Entries {
         let Some(told) = self.told() else {
             return None;
         };
-        let Some(prices) = &told.prices else {
-            return None;
-        };
         if place >= range_end {
             return None;
         }
-        prices.at(haystack, place)
+        told.price(haystack, place)
     }
 
     /// The first position, from the one on and up to the last, at which an attempt may find something or costs something, or past the

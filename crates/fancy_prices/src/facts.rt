@@ -3,7 +3,7 @@
 ghost use Rattle.std.specs.Prelude.{◌≡◌, ℕ, ◌<◌, ◌≤◌, true, false, not, ◌||◌, nat_lt, Some};
 ghost use Rattle.fancy_input.specs.Lines.{is_line_feed, is_carriage_return};
 ghost use Rattle.unicode.specs.Perl.{is_word_byte};
-ghost use Rattle.fancy_prices.specs.Prices.{EndsOtherwise};
+ghost use Rattle.fancy_prices.specs.Prices.{EndsNotWith, EndsOtherwise};
 ghost use Rattle.fancy_prices.specs.Facts.{FailsWith, IsAlways, IsOfKind, TellsBefore, TellsHere, bit_of, is_blank, number_of};
 
 use fancy_tree::tree::{Assertion, Meaning};
@@ -29,6 +29,15 @@ pub enum Before {
     Wide,
 }
 
+/// What is told of how the text before a place ends.
+#[derive(Clone, Copy)]
+pub(crate) enum Ending {
+    /// Of which kind its last byte is.
+    Last(Before),
+    /// The byte before its last one.
+    Second(u8),
+}
+
 /// What is told of a position.
 #[derive(Clone, Copy)]
 pub(crate) struct Facts {
@@ -36,6 +45,17 @@ pub(crate) struct Facts {
     pub(crate) here: u8,
     /// What stands before it. `None` where that is not told.
     pub(crate) before: Option<Before>,
+}
+
+/// Whether a character may end with a byte.
+pub(crate) fn may_end_with(character: char, byte: u8) -> bool
+    ensures { result ≡ false → EndsNotWith character byte }
+{
+    let code = character as u32;
+    if byte < 0x80 {
+        return code == byte as u32;
+    }
+    code >= 0x80
 }
 
 /// Whether a byte is an ASCII letter, a digit or `_`.

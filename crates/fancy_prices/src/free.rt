@@ -5,12 +5,12 @@ ghost use Rattle.fancy_tree.specs.Sets.{has};
 ghost use Rattle.fancy_code.specs.Code.{instrs_of};
 ghost use Rattle.fancy_code.specs.CodeLength.{code_len};
 ghost use Rattle.fancy_code.specs.CodeLength.{code_len};
-ghost use Rattle.fancy_code.specs.Instructions.{Look, Match, edges_in};
+ghost use Rattle.fancy_code.specs.Instructions.{Character, Look, Match, Member, edges_in};
 ghost use Rattle.fancy_code.specs.Run.{instr_at};
 ghost use Rattle.fancy_prices.specs.Facts.{IsAlways};
-ghost use Rattle.fancy_prices.specs.Prices.{BeginsNone, Dies, EndsOtherwise, FindsBehind, FindsNone, IsDenied, IsQuiet, ReadsEach, StopsNeverBehind};
+ghost use Rattle.fancy_prices.specs.Prices.{BeginsNone, Dies, DiesBehind, EndsOtherwise, FindsBehind, FindsNone, IsDenied, IsQuiet, ReadsEach, ReadsLow, StopsNeverBehind};
 
-use crate::facts::{Before, Facts};
+use crate::facts::{Before, Ending, Facts, may_end_with};
 use crate::price::Price;
 use fancy_code::code::{Code, Instr};
 use fancy_prefilter::items::is_ascii;
@@ -132,34 +132,84 @@ fn may_end_member(kind: Before, set: &CharSet) -> bool
     false
 }
 
-/// What the code from an instruction on costs where it stops behind nothing of this kind, since the last item of each way cannot end
-/// so. `None` where that is not told: the code is not followed so deep, or an item may end so.
+/// Whether the code reads an ASCII character and stops.
+fn reads_low(code: &Code, at: usize) -> bool
+    ensures { result ≡ true → ReadsLow (instrs_of code.now) at }
+{
+    if at >= code.len() {
+        return false;
+    }
+    match code.instr(at) {
+        Instr::Character(character, next) => (*character as u32) < 0x80 && is_match(code, *next),
+        _ => false,
+    }
+}
+
+/// Whether a way that reads a character and goes on at `next` stops at no place before which the text ends so: it stops behind the
+/// character, or one ASCII character later.
+fn ends_otherwise(code: &Code, character: char, next: usize, ending: Ending) -> bool
+    ensures { result ≡ true → (at : ℕ) → instr_at (instrs_of code.now) at ≡ Character character next
+        → StopsNeverBehind (instrs_of code.now) ending 0 0 at }
+{
+    match ending {
+        Ending::Last(kind) => is_match(code, next) && !kind.may_end(character),
+        Ending::Second(byte) => reads_low(code, next) && !may_end_with(character, byte),
+    }
+}
+
+/// The same for a way that reads an item of a set, where the kind of the last byte is told.
+fn member_ends_otherwise(code: &Code, set: &CharSet, next: usize, ending: Ending) -> bool
+    ensures { result ≡ true → (at : ℕ) → instr_at (instrs_of code.now) at ≡ Member (edges_in set.now) next
+        → StopsNeverBehind (instrs_of code.now) ending 0 0 at }
+{
+    match ending {
+        Ending::Last(kind) => is_match(code, next) && !may_end_member(kind, set),
+        Ending::Second(_) => false,
+    }
+}
+
+/// What the code from an instruction on costs where it stops at no place before which the text ends so, since the items of each way
+/// cannot. `None` where that is not told: the code is not followed so deep, or they may.
 #[cycle(never)]
-fn stops_never_behind(code: &Code, at: usize, kind: Before, deep: usize) -> Option<Price>
-    ensures { IfSome result (λ p. StopsNeverBehind (instrs_of code.now) kind p.marks p.returns at) }
+fn stops_never_behind(code: &Code, at: usize, ending: Ending, deep: usize) -> Option<Price>
+    ensures { IfSome result (λ p. StopsNeverBehind (instrs_of code.now) ending p.marks p.returns at) }
 {
     if at >= code.len() || deep == 0 {
         return None;
     }
     let deep = deep - 1;
     match code.instr(at) {
-        Instr::Back(_, next) => stops_never_behind(code, *next, kind, deep)?.if_nothing(),
+        Instr::Back(_, next) => stops_never_behind(code, *next, ending, deep)?.if_nothing(),
         Instr::Character(character, next) => {
-            if is_match(code, *next) {
-                return Price::nothing_if(!kind.may_end(*character));
+            if ends_otherwise(code, *character, *next, ending) {
+                return Some(Price::nothing());
             }
-            stops_never_behind(code, *next, kind, deep)?.if_nothing()
+            stops_never_behind(code, *next, ending, deep)?.if_nothing()
         }
         Instr::Member(set, next) => {
-            if is_match(code, *next) {
-                return Price::nothing_if(!may_end_member(kind, code.set(*set)));
+            if member_ends_otherwise(code, code.set(*set), *next, ending) {
+                return Some(Price::nothing());
             }
-            stops_never_behind(code, *next, kind, deep)?.if_nothing()
+            stops_never_behind(code, *next, ending, deep)?.if_nothing()
         }
         Instr::Split(first, second) => {
-            let first = stops_never_behind(code, *first, kind, deep)?;
-            first.or(stops_never_behind(code, *second, kind, deep)?)
+            let first = stops_never_behind(code, *first, ending, deep)?;
+            first.or(stops_never_behind(code, *second, ending, deep)?)
         }
+        _ => None,
+    }
+}
+
+/// What an attempt costs that looks behind its position first, where the text before that ends so and what it looks for does not stand
+/// there. `None` where that is not told.
+pub(crate) fn price_behind(code: &Code, ending: Ending, deep: usize) -> Option<Price>
+    ensures { IfSome result (λ p. DiesBehind (instrs_of code.now) ending p.marks p.returns code.now.start) }
+{
+    if code.start >= code.len() {
+        return None;
+    }
+    match code.instr(code.start) {
+        Instr::Look(behind, body, _) if *behind => stops_never_behind(code, *body, ending, deep),
         _ => None,
     }
 }
@@ -228,7 +278,7 @@ fn price_of_body(code: &Code, behind: bool, body: usize, facts: Facts, deep: usi
     let deep = deep - 1;
     if behind {
         if let Some(kind) = facts.before {
-            if let Some(price) = stops_never_behind(code, body, kind, deep) {
+            if let Some(price) = stops_never_behind(code, body, Ending::Last(kind), deep) {
                 return Some(price);
             }
         }
