@@ -244,6 +244,29 @@ pub fn find_in_list(
     found
 }
 
+/// The match that an attempt at one position finds, as [`find_in_list`], for a regex that is one item, as far as this is told. `None` for
+/// others, and for one that is not easy. It goes on with no notes and counts nothing, so no limit is met.
+///
+/// ```text
+/// let (item, word) = (Regex::new(alloc, "[a-z]")?, Regex::new(alloc, "[a-z]+")?);
+/// find_one_item(&item, &asked, 0, &mut cache.engines)    // of "ab": Some, and in it the match 0..1
+/// find_one_item(&item, &asked, 0, &mut cache.engines)    // of "12": Some(None)
+/// find_one_item(&word, &asked, 0, &mut cache.engines)    // None
+/// ```
+pub fn find_one_item(
+    regex: &Regex,
+    asked: &Asked<'_>,
+    position: usize,
+    cache: &mut Cache,
+) -> Option<Option<Found>>
+    requires ends { position ≤ asked.now.request.range_end }
+    ensures easy { IfSome result (λ _. easy_in regex.now ≡ true) }
+    ensures found { IfSome result (λ m.
+        IsAttemptIn m cache.new (query_in (program_in regex.now) asked.now) position) }
+{
+    regex.program.read_one_item(asked, position, cache)
+}
+
 /// The groups of a match in the haystack that [`find_at`] found, as it left them in `cache`.
 ///
 /// It is refused where memory runs out (`Memory`).

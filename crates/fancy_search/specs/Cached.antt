@@ -8,14 +8,14 @@ use Rattle.fancy_runner.specs.Groups.{groups_in}
 use Rattle.fancy_code.specs.Queries.{answer_with}
 use Rattle.fancy_machine.specs.Asked.{groups_held}
 use Rattle.fancy_search.specs.declared.cache.Engine.{Engine}
-use Rattle.fancy_search.specs.declared.cache.Engine.TheVariants.{Runner, Machine, Automaton}
+use Rattle.fancy_search.specs.declared.cache.Engine.TheVariants.{Runner, Machine, WithoutGroups}
 use Rattle.fancy_search.specs.declared.cache.Cache.{Cache}
 
--- Of the groups that the engines hold those of the engine that served. The automaton holds none, and none takes part where it serves.
+-- Of the groups that the engines hold those of the engine that served. Where what served holds none, no group takes part.
 abbrev pub groups_by : Engine → List (Option Span) → List (Option Span) → List (Option Span)
 groups_by Runner runner machine = runner
 groups_by Machine runner machine = machine
-groups_by (Automaton groups) runner machine = replicate groups None
+groups_by (WithoutGroups groups) runner machine = replicate groups None
 
 -- where the groups stand in the match that the search before found
 abbrev pub cached_groups : Cache → List (Option Span)

@@ -25,9 +25,9 @@ pub enum Engine {
     Runner,
     /// The backtracking machine, which serves the others.
     Machine,
-    /// The automaton, which serves easy patterns whose code has no group. A pattern may have groups still, so many with the
-    /// whole match, none of which takes part in a match.
-    Automaton(usize),
+    /// The automaton, or the reading of one item, which serve easy patterns whose code has no group. A pattern may have groups still, so
+    /// many with the whole match, none of which takes part in a match.
+    WithoutGroups(usize),
 }
 
 /// What a search takes over from those before, of one list or from one position to the next, which left it in what they worked in.
@@ -232,7 +232,7 @@ impl Cache {
         match self.served {
             Engine::Runner => self.runner.group(number),
             Engine::Machine => self.machine.group(number),
-            Engine::Automaton(_) => None,
+            Engine::WithoutGroups(_) => None,
         }
     }
 }

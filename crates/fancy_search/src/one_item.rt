@@ -1,23 +1,33 @@
 //! Code of one item.
 
-ghost use Rattle.std.specs.Prelude.{◌≡◌, true};
+ghost use Rattle.std.specs.Prelude.{◌≡◌, IfSome};
 ghost use Rattle.fancy_code.specs.Code.{instrs_of};
+ghost use Rattle.fancy_code.specs.Context.{Context};
 ghost use Rattle.fancy_code.specs.Run.{instr_at};
-ghost use Rattle.fancy_search.specs.OneItem.{IsOneItem};
+ghost use Rattle.fancy_search.specs.OneItem.{ReadsOne};
 
 use fancy_code::code::{Code, Instr, MATCH};
+use fancy_code::step::{past_character, past_member, past_raw_byte};
 
-/// Whether code reads one item, after which a match is found.
-pub(crate) fn reads_one_item(code: &Code) -> bool
-    ensures { result ≡ true → IsOneItem (instr_at (instrs_of code.now) code.now.start) }
+/// For code that reads one item, after which a match is found: the place after the item at `place`, if it stands there. `None` for
+/// other code.
+#[inline]
+pub(crate) fn past_one_item(code: &Code, haystack: &[u8], place: usize) -> Option<Option<usize>>
+    ensures { IfSome result (λ past. (x : Context) → x.meaning ≡ code.now.meaning
+        → x.haystack ≡ haystack.now
+        → ReadsOne x (instr_at (instrs_of code.now) code.now.start) place past) }
 {
     if code.start >= code.len() {
-        return false;
+        return None;
     }
     match code.instr(code.start) {
-        Instr::Character(_, next) => *next == MATCH,
-        Instr::Member(_, next) => *next == MATCH,
-        Instr::RawByte(_, next) => *next == MATCH,
-        _ => false,
+        Instr::Character(character, next) if *next == MATCH => {
+            Some(past_character(haystack, code.meaning, *character, place))
+        }
+        Instr::Member(set, next) if *next == MATCH => {
+            Some(past_member(haystack, code.meaning, code.set(*set), place))
+        }
+        Instr::RawByte(byte, next) if *next == MATCH => Some(past_raw_byte(haystack, *byte, place)),
+        _ => None,
     }
 }

@@ -35,7 +35,7 @@ ghost use Rattle.fancy_search.specs.Cached.{IsAnswerIn, IsAttemptIn};
 use crate::asked::Asked;
 use crate::cache::{AttemptCache, AttemptNotes, Cache, Engine, Kept, RememberedSteps};
 use crate::following::{Lengths, is_worth_following, shortest_followed};
-use crate::one_item::reads_one_item;
+use crate::one_item::past_one_item;
 use crate::options::Options;
 use fancy_automaton::plain::is_plain;
 use fancy_automaton::search as automaton;
@@ -43,6 +43,7 @@ use fancy_bytes::lacking::{KnownBytes, RequiredBytes};
 use fancy_code::code::Code;
 use fancy_code::compile::compile;
 use fancy_code::found::Found;
+use fancy_code::options::is_match_boundary;
 use fancy_input::input::Request;
 use fancy_input::lines::byte_at;
 use fancy_input::refusal::SearchRefusal;
@@ -178,7 +179,7 @@ impl Program {
     ghost use Rattle.fancy_search.specs.SearchCounts.{RefusesEasy, IsOutOfSteps, AllowsAllSteps, tried_by, is_hopeless, IfFound, IsHardProgram, RefusesQuery, RefusesAttempt, AllowsAttempt, HasRoomFor, step_bound};
     ghost use Rattle.fancy_search.specs.Programs.{program_pattern, program_options, program_groups, program_names, program_length, program_is_easy, asked_of, query_in};
     ghost use Rattle.fancy_search.specs.Served.{IsPosition, StandsIn, KeepsCounts, CountsReturns, HeedsStackLimit, Serves, ServesEasily};
-    ghost use Rattle.fancy_search.specs.OneItem.{EndsByOne};
+    ghost use Rattle.fancy_search.specs.OneItem.{answer_to};
     ghost use Rattle.fancy_search.specs.Starts.{may_start, NeverHolds};
     ghost use Rattle.fancy_search.specs.KeptTables.{KeepsTable, KeepsSteps, KeepsLines, IsKeptIn, IsKeptFor, KeepsNotes, LeavesNotes, table_kept, ahead_with, most_with, notes_to_go, TakesStepsToGo, SpendsSteps, KeepsOn, notes_ahead, is_steps, keeps_no_table};
     ghost use Rattle.fancy_search.specs.Options.{search_options};
@@ -289,17 +290,6 @@ impl Program {
         !self.easy || self.code.prefilter.opening.may_hold(place, byte)
     }
 
-    /// Whether the pattern is one item, as far as its code tells, so that no match goes past an ASCII character that it starts with. For
-    /// a hard pattern the answer is `false`.
-    pub fn is_one_item(&self) -> bool
-        ensures { result ≡ true → EndsByOne self.now }
-    {
-        if !self.easy {
-            return false;
-        }
-        reads_one_item(&self.code)
-    }
-
     /// The first match that is asked for in the bytes of a haystack. Its groups stand in `cache` then.
     ///
     /// Under `seek` positions are passed over where no match begins, as the first bytes tell, and no step is taken where none is left,
@@ -397,7 +387,7 @@ impl Program {
             → AllowsAllSteps self.now asked.now.request work.old → IsOutOfSteps result → ⊥ }
     {
         if self.is_followed(asked, *kept) && self.allows_all_steps(asked.request, work) {
-            cache.served = Engine::Automaton(self.code.groups);
+            cache.served = Engine::WithoutGroups(self.code.groups);
             return self.follow(asked.haystack, asked.request, kept, &mut cache.steps, work);
         }
         let mut table = kept.table();
@@ -755,11 +745,54 @@ impl Program {
         let Ok(mut steps) = notes.take_steps(*self.text.allocator()) else {
             return Err(Error::Memory);
         };
-        cache.served = Engine::Automaton(self.code.groups);
+        cache.served = Engine::WithoutGroups(self.code.groups);
         let kept = &mut notes.kept;
         let found = self.follow(asked.haystack, from_position, kept, &mut steps, work);
         notes.steps = Some(steps);
         found
+    }
+
+    /// The match that an attempt at one position finds, as [`Program::attempt_at`], for a pattern that is one item, as far as its code
+    /// tells. `None` for other patterns, and for hard ones. The item is read there by no engine, so nothing is counted, and no limit
+    /// is met.
+    pub fn read_one_item(
+        &self,
+        asked: &Asked<'_>,
+        position: usize,
+        cache: &mut Cache,
+    ) -> Option<Option<Found>>
+        requires ends { position ≤ asked.now.request.range_end }
+        ensures easy { IfSome result (λ _. program_is_easy self.now ≡ true) }
+        ensures answer { IfSome result
+            (λ m. IsAttemptIn m cache.new (query_in self.now asked.now) position) }
+    {
+        if !self.easy {
+            return None;
+        }
+        let past = past_one_item(&self.code, asked.haystack, position)?;
+        cache.served = Engine::WithoutGroups(self.code.groups);
+        Some(self.match_to(asked, position, past))
+    }
+
+    /// The match of an easy pattern from a position up to a place, if there is one, and such a match is accepted.
+    #[inline]
+    fn match_to(&self, asked: &Asked<'_>, position: usize, past: Option<usize>) -> Option<Found>
+        requires easy { program_is_easy self.now ≡ true }
+        ensures { answer_with (replicate (program_groups self.now) None) result
+            ≡ answer_to (query_in self.now asked.now) position past }
+    {
+        let end = past?;
+        let on_boundaries = self.options.bytes_mode.keeps_characters();
+        let begins = is_match_boundary(on_boundaries, asked.haystack, position);
+        let ends = is_match_boundary(on_boundaries, asked.haystack, end);
+        if end <= asked.request.range_end && begins && ends {
+            return Some(Found {
+                position,
+                start: position,
+                end,
+            });
+        }
+        None
     }
 
     /// Whether an attempt at a position is made: always, but under `seek` only where a byte stands that a match may start with, and

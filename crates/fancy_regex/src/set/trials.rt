@@ -18,7 +18,7 @@ ghost use Rattle.fancy_search.specs.Programs.{query_in};
 ghost use Rattle.fancy_search.specs.SearchCounts.{IsOutOfSteps};
 
 use fancy_code::found::Found;
-use fancy_core::attempt::{attempt_at, find_in_list};
+use fancy_core::attempt::{attempt_at, find_in_list, find_one_item};
 use fancy_core::captures::Captures;
 use fancy_core::regex::Regex;
 use fancy_input::input::Input;
@@ -126,7 +126,7 @@ impl Trials {
         attempt_at(member, input, position, notes, &mut self.cache)
     }
 
-    /// The match that the attempt of the member with this index finds at a position, as [`find_in_list`].
+    /// The match that the attempt of the member with this index finds at a position, as [`find_in_list`]. One item is read.
     pub(crate) fn find(
         &mut self,
         index: usize,
@@ -155,6 +155,10 @@ impl Trials {
         ensures allowed { IfOk result (λ _.
             AllowsAt member.now (query_in (program_in member.now) asked.now) position) }
     {
+        let one = find_one_item(member, asked, position, &mut self.cache.engines);
+        if let Some(found) = one {
+            return Ok(found);
+        }
         self.reach(index)?;
         let notes = &mut self.notes[index];
         find_in_list(member, asked, position, notes, &mut self.cache)

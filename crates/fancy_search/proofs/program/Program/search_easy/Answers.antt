@@ -1,7 +1,7 @@
 use Rattle.std.proofs.Common.{refl, arith}
 use Rattle.std.proofs.lemmas.Result.{err_from_is_err_and}
 use Rattle.fancy_input.specs.Requests.{effective_start}
-use Rattle.fancy_search.specs.declared.cache.Engine.TheVariants.{Automaton}
+use Rattle.fancy_search.specs.declared.cache.Engine.TheVariants.{WithoutGroups}
 use Rattle.fancy_search.specs.KeptTables.{KeepsTable, table_kept}
 use Rattle.fancy_search.proofs.KeptTablesLemmas.{if_some_at, found_table, found_steps, found_spent, found_goes_on}
 use Rattle.fancy_runner.proofs.KeptTableLemmas.{again_paid}
@@ -70,4 +70,4 @@ returns-in_err-found-clause-fresh c none =
 
 pub returns-then-allows_all_steps-clause-kept : goal.returns-then-allows_all_steps-clause-kept
 returns-then-allows_all_steps-clause-kept c =
-    if_ok _ _ (λ m _. found_steps c.args.self.now c.args.asked.now.haystack.now (record c.args.cache.now { served = Automaton c.args.self.now.code.groups; steps = c.follow.new.steps }) c.args.asked.now.request c.follow.new.kept m c.follow.ensures.left c.follow.ensures.kept) c.follow.result c.follow.ensures.answer
+    if_ok _ _ (λ m _. found_steps c.args.self.now c.args.asked.now.haystack.now (record c.args.cache.now { served = WithoutGroups c.args.self.now.code.groups; steps = c.follow.new.steps }) c.args.asked.now.request c.follow.new.kept m c.follow.ensures.left c.follow.ensures.kept) c.follow.result c.follow.ensures.answer

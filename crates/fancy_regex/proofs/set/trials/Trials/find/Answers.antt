@@ -1,9 +1,12 @@
-use Rattle.std.proofs.Common.{◌≤◌, refl, sym, ap, subst, set, arith}
+use Rattle.std.proofs.Common.{◌≡◌, ◌≤◌, ◌∙◌, inl, refl, sym, ap, subst, set, arith, true≢false}
 use Rattle.std.proofs.lemmas.Option.{slice_get_read}
 use Rattle.fancy_input.specs.Work.{IsWithin, work_of}
-use Rattle.fancy_core.specs.Regexes.{step_limit_in}
+use Rattle.fancy_core.specs.Regexes.{program_in, step_limit_in}
 use Rattle.fancy_search.specs.declared.cache.AttemptCache.{AttemptCache}
+use Rattle.fancy_search.specs.Cached.{cached_groups}
+use Rattle.fancy_search.proofs.KeptTablesLemmas.{noted_past}
 use Rattle.fancy_search.proofs.ResultLemmas.{if_ok}
+use Rattle.fancy_search.proofs.SearchedLemmas.{attempt_stands}
 use Rattle.fancy_regex.specs.SetMembers.{asked_alone}
 use Rattle.fancy_regex.proofs.TrialLemmas.{noted_still, noted_now, stay_but, get_set_other}
 use Rattle.fancy_search.specs.KeptTables.{kept_from}
@@ -36,3 +39,15 @@ returns-clause-grows c = subst (λ (k : AttemptCache). work_of k.work ≤ work_o
 
 pub returns-in_err-reach-clause-grows : goal.returns-in_err-reach-clause-grows
 returns-in_err-reach-clause-grows c = omega (arith, ap (λ k. work_of k.work) c.reach.ensures.cache)
+
+pub returns-in-Some-clause-notes : goal.returns-in-Some-clause-notes
+returns-in-Some-clause-notes c notes at =
+    noted_past (program_in c.args.member.now) c.args.asked.now c.args.position notes c.in-Some.found
+    (attempt_stands (program_in c.args.member.now) c.args.asked.now (cached_groups c.find_one_item-one.new.cache) c.args.position c.requires.ends c.in-Some.found c.in-Some.ensures.found)
+    (c.requires.notes notes at)
+
+pub returns-in-Some-clause-others : goal.returns-in-Some-clause-others
+returns-in-Some-clause-others c k apart = inl refl
+
+pub returns-in-Some-clause-allowed : goal.returns-in-Some-clause-allowed
+returns-in-Some-clause-allowed c hard = absurd (true≢false (sym c.in-Some.ensures.easy ∙ hard))

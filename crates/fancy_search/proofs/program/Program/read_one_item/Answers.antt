@@ -1,0 +1,9 @@
+use Rattle.std.proofs.Common.{sym, ◌∙◌}
+use Rattle.fancy_search.proofs.OneItemLemmas.{one_item_at}
+use Rattle.fancy_search.proofs.program.Program.read_one_item.Goals as goal
+
+pub returns-clause-answer : goal.returns-clause-answer
+returns-clause-answer c = c.match_to.ensures ∙ sym (one_item_at c.args.self.now c.args.asked.now c.args.position c.in_ok-past.past c.requires.ends c.in_ok-past.ensures)
+
+pub match_to-requires : goal.match_to-requires
+match_to-requires c = record { easy = sym c.args.self.now.decided ∙ c.if-not-self.false }
