@@ -1,5 +1,6 @@
 -- How many steps the members of a set may still take, from position to position.
 use Rattle.std.proofs.Common.{◌≡◌, ◌≤◌, ◌<◌, ◌+◌, ◌-◌, ◌⊎◌, ℕ, zero, suc, Bool, true, false, List, [], length, take, Option, Some, None, inl, inr, refl, sym, ◌∙◌, ap, subst, arith, slice_get, get_or, if◌then◌else◌, IfSome, IfNone}
+use Rattle.std.specs.Global.{Box}
 use Rattle.std.specs.Prelude.{sum_by, nat_lt}
 use Rattle.std.proofs.lemmas.Bool.{ltb-true, ltb-false, le-ltb}
 use Rattle.std.proofs.lemmas.List.Sums.{sum_by_more, sum_by-take-le}
@@ -26,7 +27,7 @@ use Rattle.fancy_core.specs.Limited.{most_steps_of}
 use Rattle.fancy_core.specs.Regexes.{easy_in, length_in}
 use Rattle.fancy_regex.specs.SetCounts.{AreAllEasy, most_steps_of_all, next_place, steps_left, steps_left_of, steps_left_in}
 use Rattle.fancy_regex.specs.SetMembers.{SetQuery}
-use Rattle.fancy_regex.specs.Trials.{IsOldOrNew, OthersStayBut, notes_at}
+use Rattle.fancy_regex.specs.Trials.{IsOldOrNew, OthersStayBut, notes_held, notes_at}
 use Rattle.fancy_regex.specs.declared.set.trials.Trials.{Trials}
 use Rattle.fancy_regex.proofs.TrialLemmas.{either_one}
 
@@ -120,23 +121,23 @@ module _ (q : SetQuery) where
       ∙ ap (λ (p : ℕ). steps_left member q.request p (notes_at trials k)) at
 
   -- a member that comes to a later place, or to the same, has no more left
-  left_fewer : (next later position place k : ℕ) (old new : Trials) → next_place next position k ≤ next_place later place k → IsOldOrNew (notes_at old k) (notes_at new k)
+  left_fewer : (next later position place k : ℕ) (old new : Trials) → next_place next position k ≤ next_place later place k → notes_at new k ≡ notes_at old k
       → steps_left_of q later place new k ≤ steps_left_of q next position old k
   left_fewer next later position place k old new le stays = at (slice_get q.members k) where
     at : (m : Option Regex) → option_to m 0 (λ member. steps_left member q.request (next_place later place k) (notes_at new k))
         ≤ option_to m 0 (λ member. steps_left member q.request (next_place next position k) (notes_at old k))
     at None = omega arith
-    at (Some member) = omega (arith, left_stays member q.request (next_place later place k) (notes_at old k) (notes_at new k) stays, fewer_left member q.request (next_place next position k) (next_place later place k) (notes_at old k) le)
+    at (Some member) = omega (arith, ap (steps_left member q.request (next_place later place k)) stays, fewer_left member q.request (next_place next position k) (next_place later place k) (notes_at old k) le)
 
   -- members that are passed over at a position have no more left at the one after
   pub left_skipped : (next later position : ℕ) (trials : Trials) → next ≤ later → steps_left_in q later position trials ≤ steps_left_in q next position trials
   left_skipped next later position trials le =
-      sum_le (steps_left_of q later position trials) (steps_left_of q next position trials) (length q.members) (λ k. left_fewer next later position position k trials trials (omega (arith, le)) (inl refl))
+      sum_le (steps_left_of q later position trials) (steps_left_of q next position trials) (length q.members) (λ k. left_fewer next later position position k trials trials (omega (arith, le)) refl)
 
   -- so do all members
   pub left_on : (next position : ℕ) (trials : Trials) → steps_left_in q 0 (position + 1) trials ≤ steps_left_in q next position trials
   left_on next position trials =
-      sum_le (steps_left_of q 0 (position + 1) trials) (steps_left_of q next position trials) (length q.members) (λ k. left_fewer next 0 position (position + 1) k trials trials (omega arith) (inl refl))
+      sum_le (steps_left_of q 0 (position + 1) trials) (steps_left_of q next position trials) (length q.members) (λ k. left_fewer next 0 position (position + 1) k trials trials (omega arith) refl)
 
   -- what is left for the member that is tried next is a part of all
   pub part_left : (index position : ℕ) (member : Regex) (trials : Trials) → slice_get q.members index ≡ Some member
@@ -164,5 +165,5 @@ module _ (q : SetQuery) where
       let first = effective_start q.request in
       let each : (k : ℕ) (r : Regex) → slice_get q.members k ≡ Some r → steps_left_of q 0 first trials k ≡ most_steps_of r q.request =
       λ k r is. left_here 0 first first k r trials is (omega arith)
-      ∙ ap (λ (l : List AttemptNotes). steps_left r q.request first (slice_get l k)) none in
+      ∙ ap (λ (l : List (Option (Box AttemptNotes))). steps_left r q.request first (notes_held (slice_get l k))) none in
       omega (arith, sum_members (λ r. most_steps_of r q.request) q.members (steps_left_of q 0 first trials) (length q.members) (omega arith) each, sum_by-take-le (λ r. most_steps_of r q.request) q.members (length q.members))

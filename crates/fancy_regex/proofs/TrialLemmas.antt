@@ -1,6 +1,6 @@
 -- What the members of a set found out, from position to position.
 use Rattle.std.proofs.Common.{◌≡◌, ◌≤◌, ◌<◌, ◌+◌, ◌⊎◌, ℕ, zero, suc, Bool, true, false, nat_eq, eqb-true, if◌then◌else◌, List, [], ◌∷◌, ◌++◌, length, set, Option, Some, None, inl, inr, refl, sym, ◌∙◌, ap, subst, arith, slice_get}
-use Rattle.std.specs.Prelude.{IfSome}
+use Rattle.std.specs.Global.{Box}
 use Rattle.std.proofs.lemmas.Option.{none-some, same_Some}
 use Rattle.fancy_input.specs.declared.input.Request.{Request}
 use Rattle.fancy_core.specs.declared.regex.Regex.{Regex}
@@ -14,7 +14,7 @@ use Rattle.fancy_search.proofs.KeptTablesLemmas.{noted_later}
 use Rattle.fancy_regex.specs.LongestMatches.{EndsBy}
 use Rattle.fancy_regex.specs.SetMembers.{SetQuery}
 use Rattle.fancy_regex.specs.declared.set.trials.Trials.{Trials}
-use Rattle.fancy_regex.specs.Trials.{notes_at, NotedAt, AreNoted, AreNotedFrom, AreNotedBelow, IsOldOrNew, OthersStay, OthersStayBut}
+use Rattle.fancy_regex.specs.Trials.{notes_held, notes_at, NotedAt, AreNoted, AreNotedFrom, AreNotedBelow, IsOldOrNew, OthersStayBut}
 
 -- two numbers are the same or not
 pub either_one : (m n : ℕ) → (m ≡ n) ⊎ (m ≡ n → ⊥)
@@ -38,42 +38,36 @@ reaches_it place found f is le = subst (λ (o : Option Found). kept_from o place
   at true = omega arith
   at false = le
 
--- notes that nothing was found out in are new
-pub noted_pushed : (xs : List AttemptNotes) (x : AttemptNotes) (k : ℕ) → x.kept ≡ Nothing → IsOldOrNew (slice_get xs k) (slice_get (xs ++ x ∷ []) k)
-noted_pushed [] x zero none = inr (refl, none)
-noted_pushed [] x (suc k) none = inl refl
-noted_pushed (y ∷ ys) x zero none = inl refl
-noted_pushed (y ∷ ys) x (suc k) none = noted_pushed ys x k none
+-- a place without notes is as none
+pub none_pushed : (xs : List (Option (Box AttemptNotes))) (k : ℕ) → notes_held (slice_get (xs ++ None ∷ []) k) ≡ notes_held (slice_get xs k)
+none_pushed [] zero = refl
+none_pushed [] (suc k) = refl
+none_pushed (y ∷ ys) zero = refl
+none_pushed (y ∷ ys) (suc k) = none_pushed ys k
 
--- notes that stayed, and then stayed again
-pub stays_twice : (old mid new : Option AttemptNotes) → IsOldOrNew old mid → IsOldOrNew mid new → IsOldOrNew old new
-stays_twice old mid new first (inl same) = subst (λ (n : Option AttemptNotes). IsOldOrNew old n) (sym same) first
-stays_twice old mid new (inl same) (inr fresh) = inr (sym same ∙ fresh.0, fresh.1)
-stays_twice old mid new (inr none) (inr fresh) = inr (none.0, fresh.1)
-
-pub get_set_other : (xs : List AttemptNotes) (i k : ℕ) (x : AttemptNotes) → (k ≡ i → ⊥) → slice_get (set xs i x) k ≡ slice_get xs k
+pub get_set_other : {A : Type 0} (xs : List A) (i k : ℕ) (x : A) → (k ≡ i → ⊥) → slice_get (set xs i x) k ≡ slice_get xs k
 get_set_other [] i k x apart = refl
 get_set_other (y ∷ ys) zero zero x apart = absurd (apart refl)
 get_set_other (y ∷ ys) zero (suc k) x apart = refl
 get_set_other (y ∷ ys) (suc i) zero x apart = refl
 get_set_other (y ∷ ys) (suc i) (suc k) x apart = get_set_other ys i k x (λ e. apart (ap suc e))
 
-pub get_set_same : (xs : List AttemptNotes) (i : ℕ) (x : AttemptNotes) → i < length xs → slice_get (set xs i x) i ≡ Some x
+pub get_set_same : {A : Type 0} (xs : List A) (i : ℕ) (x : A) → i < length xs → slice_get (set xs i x) i ≡ Some x
 get_set_same [] i x lt = absurd (omega arith)
 get_set_same (y ∷ ys) zero x lt = refl
 get_set_same (y ∷ ys) (suc i) x lt = get_set_same ys i x (omega arith)
 
 -- what a member found out stands where it was put
-pub noted_now : (member : Regex) (haystack : List ℕ) (request : Request) (place index : ℕ) (xs : List AttemptNotes) (x : AttemptNotes) → index < length xs
-    → KeepsNotes (program_in member) haystack request place x
-    → (notes : AttemptNotes) → slice_get (set xs index x) index ≡ Some notes → KeepsNotes (program_in member) haystack request place notes
+pub noted_now : (member : Regex) (haystack : List ℕ) (request : Request) (place index : ℕ) (xs : List (Option (Box AttemptNotes))) (x : Box AttemptNotes) → index < length xs
+    → KeepsNotes (program_in member) haystack request place x.value
+    → (notes : AttemptNotes) → notes_held (slice_get (set xs index (Some x)) index) ≡ Some notes → KeepsNotes (program_in member) haystack request place notes
 noted_now member haystack request place index xs x lt is notes at =
-    subst (λ (n : AttemptNotes). KeepsNotes (program_in member) haystack request place n) (same_Some x notes (sym (get_set_same xs index x lt) ∙ at)) is
+    subst (λ (n : AttemptNotes). KeepsNotes (program_in member) haystack request place n) (same_Some x.value notes (ap notes_held (sym (get_set_same xs index (Some x) lt)) ∙ at)) is
 
--- notes that stayed, and then stayed but for one member
-pub stay_but : (index : ℕ) (old mid : Trials) (items : List AttemptNotes) → OthersStay old mid → ((k : ℕ) → (k ≡ index → ⊥) → slice_get items k ≡ notes_at mid k)
-    → (k : ℕ) → (k ≡ index → ⊥) → IsOldOrNew (notes_at old k) (slice_get items k)
-stay_but index old mid items others same k apart = subst (λ (n : Option AttemptNotes). IsOldOrNew (notes_at old k) n) (sym (same k apart)) (others k)
+-- and those of others are as they were
+pub stay_but : (index : ℕ) (old mid : Trials) (x : Option (Box AttemptNotes)) → OthersStayBut index old mid
+    → (k : ℕ) → (k ≡ index → ⊥) → notes_held (slice_get (set mid.notes.items index x) k) ≡ notes_at old k
+stay_but index old mid x others k apart = ap notes_held (get_set_other mid.notes.items index k x apart) ∙ others k apart
 
 module _ (q : SetQuery) where
   -- notes that are new are kept for any place
@@ -81,18 +75,14 @@ module _ (q : SetQuery) where
   is_noted_new member place notes none = rw none (tt, λ e. cc)
 
   -- so are those that are as they were, for the place that they were kept for
-  is_noted_still : (member : Regex) (place k : ℕ) (old : Trials) (new : Option AttemptNotes) (notes : AttemptNotes) → new ≡ Some notes → IsOldOrNew (notes_at old k) new
+  pub noted_still : (member : Regex) (place k : ℕ) (old : Trials) (notes : AttemptNotes) → IsOldOrNew (notes_at old k) (Some notes)
       → NotedAt k member q.haystack q.request place old → KeepsNotes (program_in member) q.haystack q.request place notes
-  is_noted_still member place k old new notes is (inl same) noted = noted notes (sym same ∙ is)
-  is_noted_still member place k old new notes is (inr fresh) noted = is_noted_new member place notes (subst (λ (n : Option AttemptNotes). IfSome n (λ m. m.kept ≡ Nothing)) is fresh.1)
-
-  -- what a member found out is as it was, or new
-  pub noted_still : (member : Regex) (place k : ℕ) (old new : Trials) → OthersStay old new → NotedAt k member q.haystack q.request place old → NotedAt k member q.haystack q.request place new
-  noted_still member place k old new others noted notes at = is_noted_still member place k old (notes_at new k) notes at (others k) noted
+  noted_still member place k old notes (inl same) noted = noted notes (sym same)
+  noted_still member place k old notes (inr fresh) noted = is_noted_new member place notes fresh.1
 
   -- before any member was tried
   pub none_tried : (These : ℕ → Type 0) (place : ℕ) (trials : Trials) → trials.notes.items ≡ [] → AreNoted These q place trials
-  none_tried These place trials none k member these is notes at = absurd (none-some notes (sym (ap (λ (l : List AttemptNotes). slice_get l k) none) ∙ at))
+  none_tried These place trials none k member these is notes at = absurd (none-some notes (sym (ap (λ (l : List (Option (Box AttemptNotes))). notes_held (slice_get l k)) none) ∙ at))
 
   -- what is kept for a place is kept for a later one
   pub noted_on : (These : ℕ → Type 0) (place later : ℕ) (trials : Trials) → place ≤ later
@@ -104,7 +94,7 @@ module _ (q : SetQuery) where
   pub noted_past : (place next index : ℕ) (old new : Trials) → next ≤ index → OthersStayBut index old new
       → AreNotedFrom next q place old → AreNotedFrom (index + 1) q place new
   noted_past place next index old new le others noted k member from is notes at =
-      is_noted_still member place k old (notes_at new k) notes at (others k (λ e. omega (arith, e, from))) (noted k member (omega (arith, le, from)) is)
+      noted k member (omega (arith, le, from)) is notes (sym (others k (λ e. omega (arith, e, from))) ∙ at)
 
   -- what one member found out, told of it by another name
   same_member : (place index k : ℕ) (member other : Regex) (new : Trials) → slice_get q.members index ≡ Some member → slice_get q.members k ≡ Some other → k ≡ index
@@ -120,7 +110,7 @@ module _ (q : SetQuery) where
   noted_with place from index member old new is others this noted k other reached at = here (either_one k index) where
     here : ((k ≡ index) ⊎ (k ≡ index → ⊥)) → NotedAt k other q.haystack q.request place new
     here (inl e) = same_member place index k member other new is at e this
-    here (inr apart) = λ notes here. is_noted_still other place k old (notes_at new k) notes here (others k apart) (noted k other reached at)
+    here (inr apart) = λ notes got. noted k other reached at notes (sym (others k apart) ∙ got)
 
   -- The members below one were tried at a place, and what they found ends at `end` or before. So it is of the member that was tried last.
   pub tried_below : (place next index at end later : ℕ) (member : Regex) (old new : Trials) → next ≤ index → slice_get q.members index ≡ Some member
@@ -132,8 +122,8 @@ module _ (q : SetQuery) where
     here (inl e) = λ notes got. noted_later (program_in other) q.haystack q.request at later notes reach (same_member at index k member other new is is' e this notes got)
     here (inr apart) = before (either_side k next) where
       before : ((k < next) ⊎ (next ≤ k)) → NotedAt k other q.haystack q.request later new
-      before (inl lt) = λ notes got. noted_later (program_in other) q.haystack q.request end later notes forth (is_noted_still other end k old (notes_at new k) notes got (others k apart) (below k other lt is'))
-      before (inr ge) = λ notes got. noted_later (program_in other) q.haystack q.request place later notes on (is_noted_still other place k old (notes_at new k) notes got (others k apart) (from k other ge is'))
+      before (inl lt) = λ notes got. noted_later (program_in other) q.haystack q.request end later notes forth (below k other lt is' notes (sym (others k apart) ∙ got))
+      before (inr ge) = λ notes got. noted_later (program_in other) q.haystack q.request place later notes on (from k other ge is' notes (sym (others k apart) ∙ got))
 
   -- all members, of those below one and those from it on
   pub tried_all : (place next end : ℕ) (trials : Trials) → place ≤ end

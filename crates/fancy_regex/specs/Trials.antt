@@ -1,4 +1,5 @@
 -- What the members of a pattern set found out at the positions before.
+use Rattle.std.specs.Global.{Box}
 use Rattle.std.specs.Prelude.{◌≡◌, ◌≤◌, ◌<◌, ◌+◌, ◌⊎◌, ℕ, List, Option, Some, None, IfSome, slice_get}
 use Rattle.fancy_input.specs.declared.input.Request.{Request}
 use Rattle.fancy_core.specs.declared.regex.Regex.{Regex}
@@ -9,9 +10,15 @@ use Rattle.fancy_search.specs.KeptTables.{KeepsNotes}
 use Rattle.fancy_regex.specs.SetMembers.{SetQuery}
 use Rattle.fancy_regex.specs.declared.set.trials.Trials.{Trials}
 
+-- the notes in a place of the list, if there are some
+abbrev pub notes_held : Option (Option (Box AttemptNotes)) → Option AttemptNotes
+notes_held None = None
+notes_held (Some None) = None
+notes_held (Some (Some notes)) = Some notes.value
+
 -- what the member with this index found out, if it was tried
 abbrev pub notes_at : Trials → ℕ → Option AttemptNotes
-notes_at trials index = slice_get trials.notes.items index
+notes_at trials index = notes_held (slice_get trials.notes.items index)
 
 -- what the member with this index, this regex, found out is kept for attempts at `place` or later
 abbrev pub NotedAt : ℕ → Regex → List ℕ → Request → ℕ → Trials → Type 0
@@ -34,13 +41,9 @@ AreNotedBelow to q place trials = AreNoted (λ k. k < to) q place trials
 abbrev pub IsOldOrNew : Option AttemptNotes → Option AttemptNotes → Type 0
 IsOldOrNew old new = (new ≡ old) ⊎ ((old ≡ None) × IfSome new (λ notes. notes.kept ≡ Nothing))
 
--- the notes of all members are as they were, or new
-abbrev pub OthersStay : Trials → Trials → Type 0
-OthersStay old new = (k : ℕ) → IsOldOrNew (notes_at old k) (notes_at new k)
-
--- so are those of all members but the one with this index
+-- the notes of all members but the one with this index are as they were
 abbrev pub OthersStayBut : ℕ → Trials → Trials → Type 0
-OthersStayBut index old new = (k : ℕ) → (k ≡ index → ⊥) → IsOldOrNew (notes_at old k) (notes_at new k)
+OthersStayBut index old new = (k : ℕ) → (k ≡ index → ⊥) → notes_at new k ≡ notes_at old k
 
 -- the member that a set's matches ask next: past the one that has answered already
 abbrev pub next_asked : {A : Type 0} → Option A → ℕ → ℕ

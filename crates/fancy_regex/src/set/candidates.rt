@@ -9,7 +9,7 @@
 //! The tables take no memory beside their own, whatever the set's size: they have one bit for each of 128 groups of neighbours. Up to
 //! 128 members each have a group of their own.
 
-ghost use Rattle.std.specs.Prelude.{◌≡◌, ◌≤◌, ◌<◌, ◌+◌, ◌*◌, ◌==◌, ◌&&◌, ◌||◌, ◌↔◌, ℕ, List, IfSome, IsTrue, MatchOption, false, length, slice_get, slice_index, take};
+ghost use Rattle.std.specs.Prelude.{◌≡◌, ◌≤◌, ◌<◌, ◌+◌, ◌*◌, ◌/◌, ◌==◌, ◌&&◌, ◌||◌, ◌↔◌, ℕ, List, IfSome, IsTrue, MatchOption, false, length, slice_get, slice_index, take};
 ghost use Rattle.fancy_core.specs.declared.regex.Regex.{Regex};
 
 use fancy_core::regex::Regex;
@@ -194,6 +194,17 @@ impl Candidates {
             .narrowed(&self.fourth, byte_at(searched, position + 3))
     }
 
+    /// The number of the group of the member with this index. Where each has a group of its own, no division is needed.
+    fn group_of(&self, index: usize) -> usize
+        ensures { result ≡ index / self.now.width }
+    {
+        if self.width == 1 {
+            index
+        } else {
+            index / self.width
+        }
+    }
+
     /// The first member in one of the groups with an index from the one on and below `count`.
     pub(crate) fn next_member(&self, groups: Groups, from: usize, count: usize) -> Option<usize>
         ensures { MatchOption result (NoMemberBetween self.now.width groups from count)
@@ -202,7 +213,7 @@ impl Candidates {
         if groups.is_empty() {
             return None;
         }
-        let Some(group) = groups.first_from(from / self.width) else {
+        let Some(group) = groups.first_from(self.group_of(from)) else {
             return None;
         };
         let index = from.max(group * self.width);

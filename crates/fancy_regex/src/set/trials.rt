@@ -4,7 +4,7 @@
 //! that member, so an easy member takes no more steps at all positions together than one search of it does. The memory for that
 //! is taken as members are first tried; all other memory serves all members.
 
-ghost use Rattle.std.specs.Prelude.{◌≡◌, ◌≤◌, ◌<◌, ◌+◌, ℕ, true, List, [], IfOk, IfErr, IfSome, IfNone, OnOk, length, vec_len, slice_get};
+ghost use Rattle.std.specs.Prelude.{◌≡◌, ◌≤◌, ◌<◌, ◌+◌, ℕ, true, List, [], Some, IfOk, IfErr, IfSome, IfNone, length, vec_len};
 ghost use Rattle.fancy_bytes.specs.Lacks.{AreKnown};
 ghost use Rattle.fancy_core.specs.Captures.{spans_if, searched_in, found_by};
 ghost use Rattle.fancy_core.specs.Limited.{RefusesAt, AllowsAt};
@@ -30,8 +30,8 @@ use std::alloc::Global;
 
 /// What the members of a set are tried in, in one haystack.
 pub(crate) struct Trials {
-    // what each member found out, up to the last that was tried
-    notes: Vec<AttemptNotes>,
+    // what each member found out that was tried, up to the last of them
+    notes: Vec<Option<Box<AttemptNotes>>>,
     /// What all members are tried in.
     pub(crate) cache: AttemptCache,
 }
@@ -47,7 +47,7 @@ impl Trials {
     ghost use Rattle.fancy_input.specs.Work.{units_of, IsSpent, IsWithin};
     ghost use Rattle.fancy_regex.specs.SetCounts.{IsPaired, steps_in, steps_left};
     ghost use Rattle.fancy_regex.specs.SetLimits.{KeepsWork};
-    ghost use Rattle.fancy_regex.specs.Trials.{NotedAt, OthersStay, OthersStayBut, notes_at};
+    ghost use Rattle.fancy_regex.specs.Trials.{IsOldOrNew, NotedAt, OthersStayBut, notes_at};
 
     /// No member was tried yet, and no memory is taken.
     pub(crate) fn new(alloc: Global) -> Trials
@@ -63,18 +63,23 @@ impl Trials {
         }
     }
 
-    /// Has a place for what the member with this index finds out.
-    fn reach(&mut self, index: usize) -> Result<()>
-        ensures reached { OnOk result (index < vec_len self.new.notes) }
-        ensures others { OthersStay self.old self.new }
+    /// Takes out what the member with this index found out. Where it was not tried yet, memory is taken for it.
+    fn take_notes(&mut self, index: usize) -> Result<Box<AttemptNotes>>
+        ensures reached { IfOk result (λ _. index < vec_len self.new.notes) }
+        ensures given { IfOk result
+            (λ notes. IsOldOrNew (notes_at self.old index) (Some notes.value)) }
+        ensures others { OthersStayBut index self.old self.new }
         ensures cache { self.new.cache ≡ self.old.cache }
         ensures refused { IfErr result (λ e. e ≡ Error.Memory) }
     {
         let alloc = *self.notes.allocator();
         'members: while self.notes.len() <= index {
-            self.notes.push(AttemptNotes::new(alloc))?;
+            self.notes.push(None)?;
         }
-        Ok(())
+        match self.notes[index].take() {
+            Some(notes) => Ok(notes),
+            None => Ok(Box::new(alloc, AttemptNotes::new(alloc))?),
+        }
     }
 
     /// The attempt of the member with this index at a position, as [`attempt_at`].
@@ -121,9 +126,10 @@ impl Trials {
         ensures allowed { IfOk result (λ _.
             AllowsAt member.now (asked_by member.now S.bytes input) position) }
     {
-        self.reach(index)?;
-        let notes = &mut self.notes[index];
-        attempt_at(member, input, position, notes, &mut self.cache)
+        let mut notes = self.take_notes(index)?;
+        let found = attempt_at(member, input, position, &mut notes, &mut self.cache);
+        self.notes[index] = Some(notes);
+        found
     }
 
     /// The match that the attempt of the member with this index finds at a position, as [`find_in_list`]. One item is read.
@@ -159,8 +165,9 @@ impl Trials {
         if let Some(found) = one {
             return Ok(found);
         }
-        self.reach(index)?;
-        let notes = &mut self.notes[index];
-        find_in_list(member, asked, position, notes, &mut self.cache)
+        let mut notes = self.take_notes(index)?;
+        let found = find_in_list(member, asked, position, &mut notes, &mut self.cache);
+        self.notes[index] = Some(notes);
+        found
     }
 }
