@@ -84,10 +84,8 @@ fn first_token(kinds: &RegexSet, text: &str) -> Result<Option<(usize, usize)>> {
     let Some(mut matches) = kinds.find_input(input)? else {
         return Ok(None);
     };
-    let Some(found) = matches.next().transpose()? else {
-        return Ok(None);
-    };
-    Ok(Some((found.pattern(), found.end())))
+    let first = matches.next().transpose()?;
+    Ok(first.map(|found| (found.pattern(), found.end())))
 }
 
 /// The tokens of a small language: keywords 0, names 1, numbers 2, strings 3, operators 4, brackets and separators 5, comments 6

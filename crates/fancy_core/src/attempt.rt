@@ -284,6 +284,6 @@ pub fn captures_found<'r, S: Input>(
     ensures regex { IfOk result (λ c. found_by c ≡ regex.now) }
     ensures refused { IfErr result (λ e. e ≡ Memory) }
 {
-    let groups = groups_found(regex.allocator(), regex.captures_len(), found, cache)?;
+    let groups = groups_found(regex.allocator(), &regex.program, found, cache)?;
     Ok(Captures::new(regex, haystack, groups))
 }

@@ -128,7 +128,7 @@ impl Regex {
         let Some(found) = found else {
             return Ok(None);
         };
-        let groups = groups_found(self.allocator(), self.captures_len(), found, cache)?;
+        let groups = groups_found(self.allocator(), &self.program, found, cache)?;
         Ok(Some(Captures::new(self, haystack, groups)))
     }
 }

@@ -27,7 +27,6 @@ use fancy_tree::error::Result;
 ///
 /// The first `next` takes memory, which the later searches reuse. An item is an error where a search is refused, for want of
 /// memory or past a limit, as [`Regex::find_input`] is; the list ends after it. Made by [`Regex::find_iter`].
-#[derive(Drop)]
 pub struct Matches<'r, S: Haystack> {
     regex: &'r Regex,
     searcher: Searcher<S>,
@@ -35,6 +34,17 @@ pub struct Matches<'r, S: Haystack> {
     ghost suits: { Suits (options_in regex.now) (S.text searcher.haystack)
         (S.bytes searcher.haystack) },
     ghost kept: { Keeps S.bytes regex.now.program searcher cache },
+}
+
+/// By hand, so that crates above do not prove it once more.
+impl<'r, S: Haystack> Drop for Matches<'r, S> {
+    fn drop(self) {
+        let Matches {
+            regex: _,
+            searcher: _,
+            cache: _,
+        } = self;
+    }
 }
 
 impl Regex {

@@ -181,12 +181,7 @@ impl<'r, 't> Rewriting<'r, 't> {
         ensures refused { IfErr result (λ e. e ≡ Error.Memory) }
     {
         let regex = self.regex;
-        let groups = groups_found(
-            regex.allocator(),
-            regex.captures_len(),
-            item.found,
-            &self.cache,
-        )?;
+        let groups = groups_found(regex.allocator(), &regex.program, item.found, &self.cache)?;
         Ok(Captures::new(regex, self.searcher.haystack(), groups))
     }
 }

@@ -25,7 +25,6 @@ pub use limited::SplitN;
 ///
 /// The first `next` takes memory, which the later searches reuse. An item is an error where a search is refused, as
 /// [`Regex::find_input`] is; the item after it is the rest from the end of the last match on. Made by [`Regex::split`].
-#[derive(Drop)]
 pub struct Split<'r, 't> {
     regex: &'r Regex,
     searcher: Searcher<&'t str>,
@@ -39,6 +38,19 @@ pub struct Split<'r, 't> {
     ghost inside: { last ≤ length searcher.haystack.now },
     ghost cleanly: { IsTrue (is_boundary searcher.haystack.now last) },
     ghost before: { searcher.ended ≡ false → last ≤ searcher.request.start },
+}
+
+/// By hand, so that crates above do not prove it once more.
+impl<'r, 't> Drop for Split<'r, 't> {
+    fn drop(self) {
+        let Split {
+            regex: _,
+            searcher: _,
+            cache: _,
+            last: _,
+            ended: _,
+        } = self;
+    }
 }
 
 /// The part of a text between two places, in bytes.

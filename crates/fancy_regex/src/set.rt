@@ -30,11 +30,20 @@ use std::alloc::Global;
 /// let set = RegexSet::new(alloc, &["\\d+", "\\w+"])?;
 /// set.find_input(RegexInput::new("$29"))?    // Some, at 1: pattern 0 from 1 to 3, and pattern 1 from 1 to 3
 /// ```
-#[derive(Drop)]
 pub struct RegexSet {
     pub(crate) members: Vec<Regex>,
     pub(crate) candidates: Candidates,
     ghost listed: { AreCandidatesOf members.items candidates },
+}
+
+/// By hand, so that crates above do not prove it once more.
+impl Drop for RegexSet {
+    fn drop(self) {
+        let RegexSet {
+            members: _,
+            candidates: _,
+        } = self;
+    }
 }
 
 impl RegexSet {

@@ -6,7 +6,6 @@ use Rattle.fancy_input.specs.declared.span.Span.{Span}
 use Rattle.fancy_code.specs.Context.{group_span}
 use Rattle.fancy_code.specs.Search.{Answer, span_of}
 use Rattle.fancy_search.specs.declared.groups.GroupSpans.{GroupSpans}
-use Rattle.fancy_search.specs.declared.groups.GroupSpans.TheVariants.{Alone, Each}
 
 -- the span of one group, if it took part
 abbrev pub span_of_group : Answer → ℕ → Option Span
@@ -17,9 +16,8 @@ abbrev pub spans_of : ℕ → Answer → List (Option Span)
 spans_of n f = map (span_of_group f) (range_with_len 0 n)
 
 -- the spans that are held
-abbrev pub spans_held : GroupSpans → List (Option Span)
-spans_held (Alone span) = Some span ∷ []
-spans_held (Each spans) = spans.items
+unfoldable pub spans_held : GroupSpans → List (Option Span)
+spans_held groups = Some groups.whole ∷ groups.others.items
 
 -- the span of a group among these; none past the last
 abbrev pub span_at : List (Option Span) → ℕ → Option Span

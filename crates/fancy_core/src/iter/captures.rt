@@ -163,8 +163,8 @@ impl<'r, S: Input> Iterator for CaptureMatches<'r, S> {
         {
             None => None,
             Some(Ok(item)) => {
-                let count = regex.captures_len();
-                match groups_found(regex.allocator(), count, item.found, &matches.cache) {
+                let program = &regex.program;
+                match groups_found(regex.allocator(), program, item.found, &matches.cache) {
                     Ok(groups) => Some(Ok(Captures::new(regex, haystack, groups))),
                     Err(_) => {
                         matches.searcher.refuse();

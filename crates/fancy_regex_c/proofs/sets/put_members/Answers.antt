@@ -58,29 +58,3 @@ loop-found-preserved c =
       gives = rw more (gives_more q p (members_to_come handed_bytes c.args.matches) (members_to_come handed_bytes s) (members_to_come handed_bytes t) c.args.members.now c.loop-found.members c.put_next.new.buffer
           c.loop-found.wanted (pattern_index found) c.member_of.result here.0 here.1 c.put_next.ensures.put inv.gives);
     }
-
-pub loop-found-preserved-in_ok-found : goal.loop-found-preserved-in_ok-found
-loop-found-preserved-in_ok-found c =
-    let inv = c.loop-found.invariant in
-    let steps = c.in-Some.ensures.steps in
-    let gives = rw c.in_ok-found.was at steps.answers in
-    let s = c.loop-found.found-iterator in
-    let t = c.next.new.self in
-    let found = c.in_ok-found.found in
-    let q = question_of handed_bytes c.args.matches in
-    let p = position_of c.args.matches in
-    let asked = asks_same_of_set s t steps.same_set steps.same_haystack steps.same_request ∙ inv.asked in
-    let position = steps.same_position ∙ inv.position in
-    let more = c.put_next.ensures.counted in
-    let before = inv.reached in
-    let reached = gives.reached in
-    let next = gives.goes_on in
-    let here = member_is_next q p (question_of handed_bytes s) (question_of handed_bytes t) (position_of s) (position_of t) (next_member s) (next_member t) (pattern_index found)
-    (found_by (captures_of found)) (spans_in (captures_of found)) c.member_of.result inv.asked inv.position asked position reached next gives.first gives.item c.member_of.ensures.pattern c.member_of.ensures.span in
-    record {
-      asked = asked;
-      position = position;
-      reached = omega (arith, more, before, reached, next);
-      gives = rw more (gives_more q p (members_to_come handed_bytes c.args.matches) (members_to_come handed_bytes s) (members_to_come handed_bytes t) c.args.members.now c.loop-found.members c.put_next.new.buffer
-          c.loop-found.wanted (pattern_index found) c.member_of.result here.0 here.1 c.put_next.ensures.put inv.gives);
-    }

@@ -1,10 +1,11 @@
-use Rattle.std.proofs.Common.{refl}
+use Rattle.std.proofs.Common.{refl, subst, sym}
+use Rattle.fancy_search.specs.Groups.{AreCut}
 use Rattle.fancy_core.proofs.iter.captures.CaptureMatchesIterator.next.Goals as goal
 
 pub new-requires : goal.new-requires
 new-requires g c =
     let groups = rw c.in-Some-Ok.field-0-is at c.in-Some-Ok.ensures.groups in
-    record { placed = rw (c.in-Ok.ensures, c.haystack-haystack.ensures) (groups.cut c.captures_len-count.result) }
+    record { placed = rw c.haystack-haystack.ensures (subst (AreCut _ _) (sym c.in-Ok.ensures) (groups.cut _)) }
 
 pub returns-in-Some-Err-clause-steps : goal.returns-in-Some-Err-clause-steps
 returns-in-Some-Err-clause-steps g c =
