@@ -2,7 +2,7 @@
 //! `fancy_regex` shows it; these are calls of the machine beneath it.
 
 ghost use Rattle.std.specs.Prelude.{◌≡◌, ◌≤◌, length, true};
-ghost use Rattle.fancy_code.specs.Search.{Query};
+ghost use Rattle.fancy_meaning.specs.Search.{Query};
 ghost use Rattle.fancy_input.specs.Work.{HasRoom, returns_of};
 ghost use Rattle.fancy_input.specs.LastLines.{KnowsLastLines};
 ghost use Rattle.fancy_machine.specs.Asked.{Asks, HeedsLimit, branches_allowed, groups_held, lines_held};

@@ -7,7 +7,7 @@ use Rattle.fancy_code.specs.Run.{instr_at}
 use Rattle.fancy_alphabet.specs.Effects.{effect_of}
 use Rattle.fancy_alphabet.specs.declared.side.Tests.{Tests}
 use Rattle.fancy_alphabet.specs.declared.side.Tests.TheVariants as tests
-use Rattle.fancy_code.specs.declared.reading.Reading.{Reading}
+use Rattle.fancy_meaning.specs.declared.reading.Reading.{Reading}
 use Rattle.fancy_alphabet.specs.Classes.{AreClasses, IsColumn, first_of, member_for, member_in, member_or, sight_of}
 use Rattle.fancy_alphabet.specs.Sides.{AreToldBy, number_of, seen_as, side_of, sides_of}
 use Rattle.fancy_alphabet.specs.Sights.{ascii, seen_in}

@@ -15,12 +15,12 @@ use Rattle.fancy_tree.specs.Sets.{differ}
 use Rattle.fancy_input.specs.Lines.{byte_before, is_line_feed, is_carriage_return}
 use Rattle.fancy_input.proofs.CharacterLemmas.{char_at-past}
 use Rattle.fancy_input.specs.Places.{char_before}
-use Rattle.fancy_code.specs.Context.{Context, is_word, word_before, word_after}
+use Rattle.fancy_meaning.specs.Context.{Context, is_word, word_before, word_after}
 use Rattle.fancy_code.specs.Instructions.{Instruction, Assert, Fail}
 use Rattle.fancy_code.specs.Run.{instr_at}
-use Rattle.fancy_code.proofs.ReadingLemmas.{low_after, low_before}
+use Rattle.fancy_meaning.proofs.ReadingLemmas.{low_after, low_before}
 use Rattle.fancy_code.proofs.RunMore.{past_end}
-use Rattle.fancy_code.proofs.WordCharacters.{ascii_word, unicode_word}
+use Rattle.fancy_meaning.proofs.WordCharacters.{ascii_word, unicode_word}
 use Rattle.fancy_alphabet.specs.Sides.{AreToldBy, IsAfter, IsBefore, IsToldBy, is_edge, is_feed, is_nothing, is_return, is_worded, nothing_where, seen_as, side_of, tests_for, wide_of}
 use Rattle.fancy_alphabet.specs.declared.side.Side.{Side}
 use Rattle.fancy_alphabet.specs.declared.side.Side.TheVariants as side

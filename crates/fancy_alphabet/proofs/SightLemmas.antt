@@ -4,15 +4,15 @@ use Rattle.std.specs.Prelude.{if◌then◌else◌, slice_get, IfSome}
 use Rattle.std.proofs.lemmas.Bool.{le-leb}
 use Rattle.fancy_code.specs.Attempt.{context_in, instrs_in}
 use Rattle.fancy_code.specs.declared.attempt.Attempt.{Attempt}
-use Rattle.fancy_code.specs.declared.reading.Reading.{Reading}
-use Rattle.fancy_code.specs.Reading.{unit_read}
+use Rattle.fancy_meaning.specs.declared.reading.Reading.{Reading}
+use Rattle.fancy_meaning.specs.Reading.{unit_read}
 use Rattle.fancy_code.specs.Instructions.{Instruction, Match, Fail, Character, Member, RawByte, Assert, Split, Open, Close, Enter, Commit, Look, Deny, Test, Back, Recall, Keep, Continue, Taken}
 use Rattle.fancy_code.specs.Run.{instr_at}
-use Rattle.fancy_code.proofs.ReadingLemmas.{low_unit}
+use Rattle.fancy_meaning.proofs.ReadingLemmas.{low_unit}
 use Rattle.fancy_tree.specs.Sets.{differ}
 use Rattle.fancy_tree.specs.declared.tree.Assertion.{Assertion}
 use Rattle.fancy_tree.specs.declared.tree.Assertion.TheVariants.{TextStart, TextEnd, LineStart, LineEnd, LineStartCrlf, LineEndCrlf, LastLine, LastLineCrlf, WordBoundary, NotWordBoundary, WordStart, WordEnd, WordStartHalf, WordEndHalf}
-use Rattle.fancy_code.specs.Context.{Context, holds, unit_at, unit_in}
+use Rattle.fancy_meaning.specs.Context.{Context, holds, unit_at, unit_in}
 use Rattle.fancy_alphabet.specs.Alike.{IsAlike, IsSeenLike, ascii_unit}
 use Rattle.fancy_alphabet.specs.Classes.{AreClasses, sight_for}
 use Rattle.fancy_alphabet.specs.Units.{cut, place_after, unit_by}

@@ -2,12 +2,12 @@
 use Rattle.std.specs.Prelude.{◌≡◌, ◌+◌, ◌≤◌, ◌<◌, ◌⊎◌, ◌↔◌, IfSome, option_map, None, ℕ, Bool, false, true, List, Option, Some, get_or, length, ◌==◌}
 use Rattle.fancy_code.specs.Code.{set_edges}
 use Rattle.fancy_code.specs.declared.code.Code.{Code}
-use Rattle.fancy_code.specs.Context.{Unit_at}
+use Rattle.fancy_meaning.specs.Context.{Unit_at}
 use Rattle.fancy_code.specs.Instructions.{Instruction}
 use Rattle.fancy_code.specs.Run.{instr_at}
 use Rattle.fancy_tree.specs.Sets.{has}
 use Rattle.fancy_code.specs.Attempt.{context_in, instrs_in}
-use Rattle.fancy_code.specs.Reading.{unit_read}
+use Rattle.fancy_meaning.specs.Reading.{unit_read}
 use Rattle.fancy_code.specs.declared.attempt.Attempt.{Attempt}
 use Rattle.fancy_alphabet.specs.Units.{place_after}
 use Rattle.fancy_alphabet.specs.Sides.{seen_as, side_of}

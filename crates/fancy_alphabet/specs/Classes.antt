@@ -1,6 +1,6 @@
 -- Classes of ASCII characters that each instruction of a code treats alike.
 use Rattle.std.specs.Prelude.{◌≡◌, ◌+◌, ◌*◌, ◌<◌, ℕ, List, Option, None, Some, get_or, length, slice_get}
-use Rattle.fancy_code.specs.Context.{Context}
+use Rattle.fancy_meaning.specs.Context.{Context}
 use Rattle.fancy_code.specs.Instructions.{Instruction}
 use Rattle.fancy_alphabet.specs.Alike.{IsAlike, ascii_seen}
 use Rattle.fancy_alphabet.specs.Sides.{AreToldBy, IsBefore, number_of, seen_as, side_of, sides_of}

@@ -2,7 +2,7 @@
 use Rattle.std.specs.Prelude.{ℕ, Bool, Option, None, Some, if◌then◌else◌, ◌==◌}
 use Rattle.fancy_tree.specs.Sets.{has}
 use Rattle.fancy_code.specs.Instructions.{Instruction, Match, Fail, Character, Member, RawByte, Assert, Split, Open, Close, Enter, Commit, Look, Deny, Test, Back, Recall, Keep, Continue, Taken}
-use Rattle.fancy_code.specs.Context.{Unit_at}
+use Rattle.fancy_meaning.specs.Context.{Unit_at}
 use Rattle.fancy_alphabet.specs.Sides.{holds_between}
 use Rattle.fancy_alphabet.specs.declared.side.Side.{Side}
 use Rattle.fancy_alphabet.specs.declared.effect.Effect.{Effect}

@@ -5,7 +5,7 @@ use Rattle.fancy_tree.specs.declared.tree.Assertion.{Assertion}
 use Rattle.fancy_tree.specs.declared.tree.Assertion.TheVariants.{TextStart, TextEnd, LineStart, LineEnd, LineStartCrlf, LineEndCrlf, LastLine, LastLineCrlf, WordBoundary, NotWordBoundary, WordStart, WordEnd, WordStartHalf, WordEndHalf}
 use Rattle.fancy_tree.specs.Sets.{differ}
 use Rattle.fancy_input.specs.Lines.{is_line_feed, is_carriage_return, byte_before}
-use Rattle.fancy_code.specs.Context.{Context, word_before, word_after}
+use Rattle.fancy_meaning.specs.Context.{Context, word_before, word_after}
 use Rattle.fancy_code.specs.Instructions.{Instruction, Assert}
 use Rattle.fancy_code.specs.Run.{instr_at}
 use Rattle.fancy_alphabet.specs.declared.side.Side.{Side}

@@ -1,8 +1,8 @@
 -- What a search sees at a place.
 use Rattle.std.specs.Prelude.{◌≡◌, ℕ, Some, option_map}
-use Rattle.fancy_code.specs.Context.{Context}
-use Rattle.fancy_code.specs.Reading.{unit_read}
-use Rattle.fancy_code.specs.declared.reading.Reading.{Reading}
+use Rattle.fancy_meaning.specs.Context.{Context}
+use Rattle.fancy_meaning.specs.Reading.{unit_read}
+use Rattle.fancy_meaning.specs.declared.reading.Reading.{Reading}
 use Rattle.fancy_alphabet.specs.Units.{unit_by}
 use Rattle.fancy_alphabet.specs.Sides.{IsBefore, IsAfter, seen_as, side_of}
 use Rattle.fancy_alphabet.specs.Effects.{Seen}

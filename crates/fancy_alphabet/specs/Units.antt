@@ -1,6 +1,6 @@
 -- What is read at a place, up to a limit.
 use Rattle.std.specs.Prelude.{ℕ, ◌+◌, Option, None, Some, nat_le, if◌then◌else◌}
-use Rattle.fancy_code.specs.Context.{Context, Unit_at, unit_at}
+use Rattle.fancy_meaning.specs.Context.{Context, Unit_at, unit_at}
 
 -- the unit, where it ends by the limit
 abbrev pub cut : ℕ → ℕ → Option Unit_at → Option Unit_at

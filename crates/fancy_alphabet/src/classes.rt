@@ -5,7 +5,7 @@ ghost use Rattle.fancy_alphabet.specs.Sides.{seen_as, side_of, sides_of};
 
 use crate::side::{Side, Tests};
 use crate::sight::Sight;
-use fancy_code::reading::Reading;
+use fancy_meaning::reading::Reading;
 use std::alloc::Global;
 
 /// Classes of ASCII characters, by numbers, and what is told apart of the sides of a place. A table has a column for each class

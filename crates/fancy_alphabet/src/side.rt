@@ -8,8 +8,8 @@ ghost use Rattle.fancy_alphabet.specs.Sides.{AreToldBy, IsAfter, IsAfterAs, IsBe
 
 use fancy_code::attempt::Attempt;
 use fancy_code::code::{Code, Instr};
-use fancy_code::reading::{is_word_after, is_word_before};
 use fancy_input::lines::{byte_at, byte_before};
+use fancy_meaning::reading::{is_word_after, is_word_before};
 use fancy_tree::tree::Assertion;
 
 /// What stands on one side of a place.

@@ -1,14 +1,14 @@
 //! What a search sees at a place: what it reads there, and what stands beside the place.
 
 ghost use Rattle.std.specs.Prelude.{◌≡◌, ◌+◌, ◌<◌, ◌≤◌, IfSome, Some, length, option_map, slice_get};
-ghost use Rattle.fancy_code.specs.Reading.{unit_read};
+ghost use Rattle.fancy_meaning.specs.Reading.{unit_read};
 ghost use Rattle.fancy_alphabet.specs.Units.{unit_by};
 ghost use Rattle.fancy_code.specs.Attempt.{context_in};
 ghost use Rattle.fancy_alphabet.specs.Sights.{IsSeenAs, ascii};
 
 use crate::side::{Side, Tests};
 use fancy_code::attempt::Attempt;
-use fancy_code::reading::{Reading, read_at};
+use fancy_meaning::reading::{Reading, read_at};
 
 /// What is seen at a place.
 #[derive(Clone, Copy, PartialEq, Eq, Debug)]

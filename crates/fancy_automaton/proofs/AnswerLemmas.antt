@@ -5,26 +5,27 @@ use Rattle.std.specs.Option.{option_or}
 use Rattle.fancy_input.specs.declared.span.Span.{Span}
 use Rattle.fancy_code.specs.declared.code.Code.{Code}
 use Rattle.fancy_code.specs.Code.{instrs_of}
-use Rattle.fancy_code.specs.Context.{Context, State}
+use Rattle.fancy_meaning.specs.Context.{Context, State}
 use Rattle.fancy_code.specs.Compile.{IsCodeOf, AreEasy}
 use Rattle.fancy_code.specs.Run.{Raw, Note, Stop, Sign, choice_opened, returned, fetched, erase}
 use Rattle.fancy_code.specs.Thread.{IsKnown, thread_run, events_of, first_accepted, ends_well, pair_run}
-use Rattle.fancy_code.specs.Search.{Query, Answer, context_of, is_match_boundary, answer_at, answer_from}
+use Rattle.fancy_meaning.specs.Search.{Query, Answer, context_of, is_match_boundary, answer_at, answer_from}
 use Rattle.fancy_code.specs.Queries.{answer_with}
 use Rattle.fancy_code.specs.Thread.{empty_slot, slot_span, state_of, starts_of}
 use Rattle.fancy_code.proofs.EasyCode.{Alike, BothAlike, run_both}
 use Rattle.fancy_code.proofs.EasyContinues.{continued_at}
 use Rattle.fancy_code.proofs.ThreadLemmas.{map-replicate}
 use Rattle.fancy_prefilter.specs.Seen.{MayNotStart}
-use Rattle.fancy_code.proofs.SkipLemmas.{none_starts}
+use Rattle.fancy_code.proofs.StartLemmas.{none_starts}
 use Rattle.fancy_bytes.specs.Firsts.{AreStartBytes}
 use Rattle.fancy_tree.specs.declared.tree.Meaning.{Meaning}
-use Rattle.fancy_code.proofs.PositionLemmas.{first_thread, deep, attempt_known, attempt_answer, search_hit, search_miss, search_skip, search_over}
-use Rattle.fancy_automaton.specs.Ways.{tagged}
-use Rattle.fancy_automaton.specs.Futures.{ArePlain, place_of, end_at, leftmost}
-use Rattle.fancy_automaton.specs.Search.{Begun, ends_in, ends_of, at_position}
-use Rattle.fancy_automaton.proofs.FutureLemmas.{plain_easy}
-use Rattle.fancy_automaton.proofs.UntouchedLemmas.{IsUntouched, outcome_untouched}
+use Rattle.fancy_code.proofs.PositionLemmas.{first_thread, deep, attempt_known, attempt_answer, search_skip}
+use Rattle.fancy_meaning.proofs.AttemptLemmas.{search_hit, search_miss, search_over}
+use Rattle.fancy_states.specs.Ways.{tagged}
+use Rattle.fancy_states.specs.Futures.{ArePlain, place_of, end_at, leftmost}
+use Rattle.fancy_states.specs.Search.{Begun, ends_in, ends_of, at_position}
+use Rattle.fancy_states.proofs.FutureLemmas.{plain_easy}
+use Rattle.fancy_states.proofs.UntouchedLemmas.{IsUntouched, outcome_untouched}
 
 module _ (ok : State → Bool) (by_place : (s r : State) → s.place ≡ r.place → ok s ≡ ok r) where
   place_if : (c d : Bool) (s r : State) (o p : Option State) → c ≡ d → s.place ≡ r.place → option_map place_of o ≡ option_map place_of p

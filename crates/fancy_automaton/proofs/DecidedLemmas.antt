@@ -4,27 +4,27 @@ use Rattle.std.specs.Option.{option_or}
 use Rattle.std.proofs.lemmas.List.{length-replicate}
 use Rattle.fancy_code.specs.declared.attempt.Attempt.{Attempt}
 use Rattle.fancy_code.specs.Attempt.{context_in, instrs_in, may_end_in}
-use Rattle.fancy_code.specs.Context.{Context}
+use Rattle.fancy_meaning.specs.Context.{Context}
 use Rattle.fancy_code.specs.Instructions.{Instruction}
-use Rattle.fancy_code.specs.Reading.{unit_read}
+use Rattle.fancy_meaning.specs.Reading.{unit_read}
 use Rattle.fancy_alphabet.specs.Alike.{IsSeenLike}
 use Rattle.fancy_alphabet.specs.Effects.{Seen}
 use Rattle.fancy_alphabet.specs.Sights.{IsSeen, seen_in}
 use Rattle.fancy_alphabet.specs.Units.{place_after}
 use Rattle.fancy_alphabet.specs.declared.sight.Sight.{Sight}
-use Rattle.fancy_automaton.specs.declared.cells.Cell.{Cell}
-use Rattle.fancy_automaton.specs.declared.cells.Cells.{Cells}
-use Rattle.fancy_automaton.specs.declared.way.Way.{Way}
-use Rattle.fancy_automaton.specs.Cells.{HasCell, HasRow, HoldsFor, KeepsRows, ways_at}
+use Rattle.fancy_states.specs.declared.cells.Cell.{Cell}
+use Rattle.fancy_states.specs.declared.cells.Cells.{Cells}
+use Rattle.fancy_states.specs.declared.way.Way.{Way}
+use Rattle.fancy_states.specs.Cells.{HasCell, HasRow, HoldsFor, KeepsRows, ways_at}
 use Rattle.fancy_automaton.specs.Decided.{Decided, Goal, later_end}
-use Rattle.fancy_automaton.specs.Futures.{end_at}
-use Rattle.fancy_automaton.specs.Search.{IsFollowed, Under}
-use Rattle.fancy_automaton.specs.Steps.{IsStep, at_of, first_tagged_end, span_by, start_in}
-use Rattle.fancy_automaton.specs.Ways.{Ends, match_end, tagged}
-use Rattle.fancy_automaton.proofs.CellLemmas.{cell_is, row_later, row_of, row_ways, row_within}
+use Rattle.fancy_states.specs.Futures.{end_at}
+use Rattle.fancy_states.specs.Search.{IsFollowed, Under}
+use Rattle.fancy_states.specs.Steps.{IsStep, at_of, first_tagged_end, span_by, start_in}
+use Rattle.fancy_states.specs.Ways.{Ends, match_end, tagged}
+use Rattle.fancy_states.proofs.CellLemmas.{cell_is, row_later, row_of, row_ways, row_within}
 use Rattle.fancy_automaton.proofs.GoingLemmas.{seen_reaches}
-use Rattle.fancy_automaton.proofs.SearchLemmas.{under_step}
-use Rattle.fancy_automaton.proofs.StepLemmas.{step_alike}
+use Rattle.fancy_states.proofs.SearchLemmas.{under_step}
+use Rattle.fancy_states.proofs.StepLemmas.{step_alike}
 
 -- the same, as if it began there
 abbrev pub retag : ℕ → Option (ℕ × ℕ) → Option (ℕ × ℕ)

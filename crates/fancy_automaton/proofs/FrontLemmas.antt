@@ -7,30 +7,30 @@ use Rattle.std.specs.Global.{Vec}
 use Rattle.fancy_input.specs.declared.span.Span.{Span}
 use Rattle.fancy_code.specs.declared.attempt.Attempt.{Attempt}
 use Rattle.fancy_code.specs.Attempt.{instrs_in, may_end_in}
-use Rattle.fancy_code.specs.Reading.{unit_read}
-use Rattle.fancy_automaton.specs.declared.cells.Cell.{Cell}
-use Rattle.fancy_automaton.specs.declared.cells.Cells.{Cells}
+use Rattle.fancy_meaning.specs.Reading.{unit_read}
+use Rattle.fancy_states.specs.declared.cells.Cell.{Cell}
+use Rattle.fancy_states.specs.declared.cells.Cells.{Cells}
 use Rattle.fancy_automaton.specs.declared.front.Front.{Front}
-use Rattle.fancy_automaton.specs.declared.trail.Beginning.{Beginning}
-use Rattle.fancy_automaton.specs.declared.trail.Beginning.TheVariants.{Known, Traced}
-use Rattle.fancy_automaton.specs.declared.trail.Hit.{Hit}
-use Rattle.fancy_automaton.specs.declared.trail.Trail.{Trail}
-use Rattle.fancy_automaton.specs.declared.trail.Visit.{Visit}
-use Rattle.fancy_automaton.specs.Cells.{KeepsRows, KeepsCells, HasRow, HasRows, HasCell, HoldsFor, ways_at, row_if}
+use Rattle.fancy_states.specs.declared.trail.Beginning.{Beginning}
+use Rattle.fancy_states.specs.declared.trail.Beginning.TheVariants.{Known, Traced}
+use Rattle.fancy_states.specs.declared.trail.Hit.{Hit}
+use Rattle.fancy_states.specs.declared.trail.Trail.{Trail}
+use Rattle.fancy_states.specs.declared.trail.Visit.{Visit}
+use Rattle.fancy_states.specs.Cells.{KeepsRows, KeepsCells, HasRow, HasRows, HasCell, HoldsFor, ways_at, row_if}
 use Rattle.fancy_alphabet.specs.Alike.{IsSeenLike}
 use Rattle.fancy_automaton.specs.Front.{IsFront, Stands, ways_of, starts_of, found_of}
 use Rattle.fancy_alphabet.specs.Units.{place_after}
-use Rattle.fancy_automaton.specs.Search.{Going, begun_if, found_or}
-use Rattle.fancy_automaton.specs.Steps.{IsStep, at_of, start_in, span_by}
-use Rattle.fancy_automaton.specs.Trail.{starts_after, starts_in, began_by, found_at, found_in_trail, hit_or, known_hit, and_start, AllVisited, IsBeginning, HitIn}
+use Rattle.fancy_states.specs.Search.{Going, begun_if, found_or}
+use Rattle.fancy_states.specs.Steps.{IsStep, at_of, start_in, span_by}
+use Rattle.fancy_states.specs.Trail.{starts_after, starts_in, began_by, found_at, found_in_trail, hit_or, known_hit, and_start, AllVisited, IsBeginning, HitIn}
 use Rattle.fancy_alphabet.specs.Sights.{seen_in}
-use Rattle.fancy_automaton.specs.Ways.{match_end}
+use Rattle.fancy_states.specs.Ways.{match_end}
 use Rattle.fancy_alphabet.specs.declared.sight.Sight.{Sight}
-use Rattle.fancy_automaton.proofs.CellLemmas.{row_ways, row_holds, row_later, row_here, cell_is, get_within}
+use Rattle.fancy_states.proofs.CellLemmas.{row_ways, row_holds, row_later, row_here, cell_is, get_within}
 use Rattle.fancy_automaton.proofs.GoingLemmas.{going_step, going_same, going_on}
-use Rattle.fancy_automaton.proofs.SearchLemmas.{no_items}
-use Rattle.fancy_automaton.proofs.StepLemmas.{step_alike}
-use Rattle.fancy_automaton.proofs.TrailLemmas.{told_by, starts_visited, visited_keep, visited_more, hit_in}
+use Rattle.fancy_states.proofs.SearchLemmas.{no_items}
+use Rattle.fancy_states.proofs.StepLemmas.{step_alike}
+use Rattle.fancy_states.proofs.TrailLemmas.{told_by, starts_visited, visited_keep, visited_more, hit_in}
 
 -- the row of a place is one that is remembered
 pub front_row : (a : Attempt) (cells : Cells) (f : Front) (place resume row : ℕ) → IsFront a cells f place resume → row ≡ row_if (found_of cells f) f.next f.begun

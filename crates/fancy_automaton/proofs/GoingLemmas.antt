@@ -6,17 +6,17 @@ use Rattle.std.proofs.lemmas.Bool.Decides.{nat_tests}
 use Rattle.fancy_input.specs.declared.span.Span.{Span}
 use Rattle.fancy_code.specs.declared.attempt.Attempt.{Attempt}
 use Rattle.fancy_code.specs.Attempt.{context_in, instrs_in, may_end_in}
-use Rattle.fancy_code.specs.Context.{Unit_at, unit_in}
-use Rattle.fancy_automaton.specs.declared.way.Way.{Way}
+use Rattle.fancy_meaning.specs.Context.{Unit_at, unit_in}
+use Rattle.fancy_states.specs.declared.way.Way.{Way}
 use Rattle.fancy_alphabet.specs.Sights.{IsSeen}
-use Rattle.fancy_automaton.specs.Ways.{match_end}
+use Rattle.fancy_states.specs.Ways.{match_end}
 use Rattle.fancy_alphabet.specs.Effects.{Seen}
-use Rattle.fancy_automaton.specs.Futures.{ArePlain, end_at, start_end}
+use Rattle.fancy_states.specs.Futures.{ArePlain, end_at, start_end}
 use Rattle.fancy_alphabet.specs.Units.{cut, place_after}
-use Rattle.fancy_automaton.specs.Steps.{IsStep, span_by, at_of, start_in}
-use Rattle.fancy_automaton.specs.Search.{BegunIn, Passes, UnderIn, leftmost_in, ends_in, found_or, begun_if, Steady, Going}
+use Rattle.fancy_states.specs.Steps.{IsStep, span_by, at_of, start_in}
+use Rattle.fancy_states.specs.Search.{BegunIn, Passes, UnderIn, leftmost_in, ends_in, found_or, begun_if, Steady, Going}
 use Rattle.fancy_alphabet.proofs.SightLemmas.{unit_is}
-use Rattle.fancy_automaton.proofs.SearchLemmas.{under_passed, under_moved, under_none, under_begun_if, under_step, left_over, no_items, same_length}
+use Rattle.fancy_states.proofs.SearchLemmas.{under_passed, under_moved, under_none, under_begun_if, under_step, left_over, no_items, same_length}
 
 found_none : (found : Option Span) → found_or found None ≡ option_map ends_in found
 found_none None = refl

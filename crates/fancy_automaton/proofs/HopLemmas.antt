@@ -6,25 +6,25 @@ use Rattle.std.proofs.lemmas.Option.{slice_get_cases}
 use Rattle.fancy_input.specs.declared.span.Span.{Span}
 use Rattle.fancy_code.specs.declared.attempt.Attempt.{Attempt}
 use Rattle.fancy_code.specs.Attempt.{context_in, instrs_in, may_end_in}
-use Rattle.fancy_code.specs.Context.{Context}
+use Rattle.fancy_meaning.specs.Context.{Context}
 use Rattle.fancy_input.specs.Lines.{byte_before}
-use Rattle.fancy_code.proofs.ReadingLemmas.{low_unit}
-use Rattle.fancy_automaton.specs.declared.cells.Cell.{Cell}
-use Rattle.fancy_automaton.specs.declared.cells.Cells.{Cells}
+use Rattle.fancy_meaning.proofs.ReadingLemmas.{low_unit}
+use Rattle.fancy_states.specs.declared.cells.Cell.{Cell}
+use Rattle.fancy_states.specs.declared.cells.Cells.{Cells}
 use Rattle.fancy_automaton.specs.declared.front.Front.{Front}
-use Rattle.fancy_automaton.specs.declared.trail.Hit.{Hit}
-use Rattle.fancy_automaton.specs.declared.trail.Visit.{Visit}
-use Rattle.fancy_automaton.specs.declared.transitions.Transition.{Transition}
-use Rattle.fancy_automaton.specs.Cells.{row_if}
+use Rattle.fancy_states.specs.declared.trail.Hit.{Hit}
+use Rattle.fancy_states.specs.declared.trail.Visit.{Visit}
+use Rattle.fancy_states.specs.declared.transitions.Transition.{Transition}
+use Rattle.fancy_states.specs.Cells.{row_if}
 use Rattle.fancy_alphabet.specs.Classes.{AreClasses, IsStart, member_for, row_start, sight_for}
 use Rattle.fancy_alphabet.specs.Sides.{seen_as, side_of}
 use Rattle.fancy_alphabet.specs.declared.classes.Classes.{Classes}
 use Rattle.fancy_automaton.specs.Front.{IsFront, found_of}
-use Rattle.fancy_automaton.specs.Search.{Steady, begun_if}
-use Rattle.fancy_automaton.specs.Trail.{hit_or, and_start}
-use Rattle.fancy_automaton.specs.Transitions.{IsTransition}
+use Rattle.fancy_states.specs.Search.{Steady, begun_if}
+use Rattle.fancy_states.specs.Trail.{hit_or, and_start}
+use Rattle.fancy_states.specs.Transitions.{IsTransition}
 use Rattle.fancy_automaton.proofs.FrontLemmas.{front_advanced}
-use Rattle.fancy_automaton.proofs.CellLemmas.{get_within}
+use Rattle.fancy_states.proofs.CellLemmas.{get_within}
 use Rattle.fancy_alphabet.proofs.SideLemmas.{low_side_before}
 use Rattle.fancy_alphabet.proofs.SightLemmas.{like_ascii}
 

@@ -18,34 +18,35 @@ use Rattle.fancy_alphabet.specs.Units.{place_after}
 use Rattle.fancy_alphabet.specs.declared.side.Side.{Side}
 use Rattle.fancy_alphabet.specs.declared.sight.Sight.{Sight}
 use Rattle.fancy_alphabet.proofs.SightLemmas.{like_ascii}
-use Rattle.fancy_automaton.specs.declared.cells.Cell.{Cell}
-use Rattle.fancy_automaton.specs.declared.cells.Cells.{Cells}
+use Rattle.fancy_states.specs.declared.cells.Cell.{Cell}
+use Rattle.fancy_states.specs.declared.cells.Cells.{Cells}
 use Rattle.fancy_automaton.specs.declared.hop.Stand.{Stand}
-use Rattle.fancy_automaton.specs.declared.origin.Origin.{Origin}
-use Rattle.fancy_automaton.specs.declared.origin.Origin.TheVariants.{Earlier, Last}
-use Rattle.fancy_automaton.specs.declared.transitions.Transition.{Transition}
-use Rattle.fancy_automaton.specs.declared.way.Way.{Way}
+use Rattle.fancy_states.specs.declared.origin.Origin.{Origin}
+use Rattle.fancy_states.specs.declared.origin.Origin.TheVariants.{Earlier, Last}
+use Rattle.fancy_states.specs.declared.transitions.Transition.{Transition}
+use Rattle.fancy_states.specs.declared.way.Way.{Way}
 use Rattle.fancy_alphabet.specs.declared.classes.Classes.{Classes}
-use Rattle.fancy_automaton.specs.Cells.{HasRow, HasRows, IsCell, IsIdle, KeepsHolding, ways_at, row_if}
+use Rattle.fancy_states.specs.Cells.{HasRow, HasRows, IsCell, IsIdle, KeepsHolding, ways_at, row_if}
 use Rattle.fancy_automaton.specs.Front.{IsFront, Stands, front_at, found_of, starts_of, ways_of}
-use Rattle.fancy_automaton.specs.Origins.{ComeFrom}
-use Rattle.fancy_automaton.specs.Search.{Going, IsFollowed, begun_if, found_or}
-use Rattle.fancy_automaton.specs.Sole.{IsAmid, IsAt, IsSole, match_from, stood}
-use Rattle.fancy_automaton.specs.Trail.{AllVisited, HitIn, found_at, known_hit, starts_after}
+use Rattle.fancy_states.specs.Origins.{ComeFrom}
+use Rattle.fancy_states.specs.Search.{Going, IsFollowed, begun_if, found_or}
+use Rattle.fancy_automaton.specs.Sole.{IsAmid, IsAt, IsSole, stood}
+use Rattle.fancy_states.specs.Trail.{match_from}
+use Rattle.fancy_states.specs.Trail.{AllVisited, HitIn, found_at, known_hit, starts_after}
 use Rattle.fancy_automaton.specs.declared.follow.Sole.{Sole}
 use Rattle.fancy_automaton.specs.declared.front.Front.{Front}
-use Rattle.fancy_automaton.specs.declared.trail.Hit.{Hit}
-use Rattle.fancy_automaton.specs.declared.trail.Visit.{Visit}
+use Rattle.fancy_states.specs.declared.trail.Hit.{Hit}
+use Rattle.fancy_states.specs.declared.trail.Visit.{Visit}
 use Rattle.fancy_automaton.proofs.FrontLemmas.{known_found, known_in}
-use Rattle.fancy_automaton.specs.Steps.{IsStep, at_of, from_of, span_by, start_in}
-use Rattle.fancy_automaton.specs.Transitions.{IsMatching, IsQuiet, IsTransition, IsView}
-use Rattle.fancy_automaton.specs.declared.transitions.View.{View}
-use Rattle.fancy_automaton.specs.Ways.{match_end}
-use Rattle.fancy_automaton.proofs.CellLemmas.{cell_is, row_here, row_holds, row_ways}
+use Rattle.fancy_states.specs.Steps.{IsStep, at_of, from_of, span_by, start_in}
+use Rattle.fancy_states.specs.Transitions.{IsMatching, IsQuiet, IsTransition, IsView}
+use Rattle.fancy_states.specs.declared.transitions.View.{View}
+use Rattle.fancy_states.specs.Ways.{match_end}
+use Rattle.fancy_states.proofs.CellLemmas.{cell_is, row_here, row_holds, row_ways}
 use Rattle.fancy_automaton.proofs.GoingLemmas.{going_same, going_step}
 use Rattle.fancy_automaton.proofs.HopLemmas.{ascii_leads, column_low, start_after}
-use Rattle.fancy_automaton.proofs.SearchLemmas.{no_items}
-use Rattle.fancy_automaton.proofs.StepLemmas.{step_alike}
+use Rattle.fancy_states.proofs.SearchLemmas.{no_items}
+use Rattle.fancy_states.proofs.StepLemmas.{step_alike}
 
 -- The ways after a step, and where the search stands then.
 pub record Stepped (a : Attempt) (cells : Cells) (at : Stand) (ways starts : List ℕ) (found after : Option Span) (t : Transition) (matched : Option ℕ) : Type 0 where

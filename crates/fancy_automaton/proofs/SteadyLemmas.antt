@@ -10,10 +10,10 @@ use Rattle.fancy_input.specs.Places.{char_at, is_boundary, is_continuation}
 use Rattle.fancy_input.proofs.TextLemmas.{char_at-boundary}
 use Rattle.fancy_code.specs.declared.attempt.Attempt.{Attempt}
 use Rattle.fancy_code.specs.Attempt.{may_end_in}
-use Rattle.fancy_code.specs.Context.{Unit_at, unit_in, one_character, one_byte}
-use Rattle.fancy_code.specs.Placed.{reads_characters}
+use Rattle.fancy_meaning.specs.Context.{Unit_at, unit_in, one_character, one_byte}
+use Rattle.fancy_meaning.specs.Placed.{reads_characters}
 use Rattle.fancy_input.proofs.CharacterLemmas.{char_at-bytes, char_at-fits}
-use Rattle.fancy_automaton.specs.Search.{Steady, KeepsPlaces, by_characters, by_bytes}
+use Rattle.fancy_states.specs.Search.{Steady, KeepsPlaces, by_characters, by_bytes}
 
 -- each byte of a character but the first continues it
 inside_encoded : (c : ℕ) (rest : List ℕ) (j : ℕ) → 0 < j → j < len_utf8 c → is_continuation (slice_index (encode_utf8 c ++ rest) j) ≡ true

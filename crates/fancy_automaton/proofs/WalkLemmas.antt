@@ -9,26 +9,27 @@ use Rattle.fancy_code.specs.Attempt.{context_in, instrs_in, may_end_in}
 use Rattle.fancy_alphabet.specs.Classes.{IsStart, sight_for}
 use Rattle.fancy_alphabet.specs.Sides.{seen_as}
 use Rattle.fancy_alphabet.specs.Units.{place_after}
-use Rattle.fancy_code.specs.Reading.{unit_read}
+use Rattle.fancy_meaning.specs.Reading.{unit_read}
 use Rattle.fancy_alphabet.specs.declared.sight.Sight.{Sight}
 use Rattle.fancy_alphabet.proofs.SightLemmas.{like_ascii}
-use Rattle.fancy_automaton.specs.declared.cells.Cell.{Cell}
-use Rattle.fancy_automaton.specs.declared.cells.Cells.{Cells}
+use Rattle.fancy_states.specs.declared.cells.Cell.{Cell}
+use Rattle.fancy_states.specs.declared.cells.Cells.{Cells}
 use Rattle.fancy_automaton.specs.declared.follow.Sole.{Sole}
 use Rattle.fancy_automaton.specs.declared.hop.Stand.{Stand}
-use Rattle.fancy_automaton.specs.declared.transitions.Transition.{Transition}
-use Rattle.fancy_automaton.specs.Cells.{HasRow, HoldsFor, ways_at}
+use Rattle.fancy_states.specs.declared.transitions.Transition.{Transition}
+use Rattle.fancy_states.specs.Cells.{HasRow, HoldsFor, ways_at}
 use Rattle.fancy_automaton.specs.Decided.{Decided, Goal, IsDecided, IsPlaced, Opens, Rests, attempt_goal, later_end}
-use Rattle.fancy_automaton.specs.Futures.{end_at, start_end}
-use Rattle.fancy_automaton.specs.Search.{BegunIn, Going, IsFollowed, Passes, ends_in, leftmost_in}
-use Rattle.fancy_automaton.specs.Sole.{IsSole, match_from, stood}
-use Rattle.fancy_automaton.specs.Steps.{first_tagged_end}
-use Rattle.fancy_automaton.specs.Transitions.{IsMatching, IsQuiet, IsTransition}
-use Rattle.fancy_automaton.specs.Ways.{tagged}
-use Rattle.fancy_automaton.proofs.CellLemmas.{row_of, row_ways, row_within}
+use Rattle.fancy_states.specs.Futures.{end_at, start_end}
+use Rattle.fancy_states.specs.Search.{BegunIn, Going, IsFollowed, Passes, ends_in, leftmost_in}
+use Rattle.fancy_automaton.specs.Sole.{IsSole, stood}
+use Rattle.fancy_states.specs.Trail.{match_from}
+use Rattle.fancy_states.specs.Steps.{first_tagged_end}
+use Rattle.fancy_states.specs.Transitions.{IsMatching, IsQuiet, IsTransition}
+use Rattle.fancy_states.specs.Ways.{tagged}
+use Rattle.fancy_states.proofs.CellLemmas.{row_of, row_ways, row_within}
 use Rattle.fancy_automaton.proofs.DecidedLemmas.{Advanced, advanced, end_in, retag, retag_end, retag_first, retag_or}
 use Rattle.fancy_automaton.proofs.GoingLemmas.{passed_none}
-use Rattle.fancy_automaton.proofs.SearchLemmas.{under_none}
+use Rattle.fancy_states.proofs.SearchLemmas.{under_none}
 use Rattle.fancy_automaton.proofs.HopLemmas.{ascii_leads, column_low, start_after}
 use Rattle.fancy_automaton.proofs.SoleLemmas.{Reads, Tells, cell_there, some_of}
 

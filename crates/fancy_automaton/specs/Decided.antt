@@ -3,12 +3,12 @@ use Rattle.std.specs.Prelude.{◌≡◌, ◌≤◌, ◌<◌, ◌⊎◌, ℕ, tru
 use Rattle.fancy_code.specs.declared.attempt.Attempt.{Attempt}
 use Rattle.fancy_code.specs.Attempt.{context_in, instrs_in, may_end_in}
 use Rattle.fancy_alphabet.specs.Classes.{IsStart}
-use Rattle.fancy_automaton.specs.declared.cells.Cells.{Cells}
+use Rattle.fancy_states.specs.declared.cells.Cells.{Cells}
 use Rattle.fancy_automaton.specs.declared.follow.Sole.{Sole}
 use Rattle.fancy_automaton.specs.declared.hop.Stand.{Stand}
-use Rattle.fancy_automaton.specs.Cells.{HasRow, ways_at}
-use Rattle.fancy_automaton.specs.Search.{BegunIn, Under, leftmost_in}
-use Rattle.fancy_automaton.specs.Ways.{tagged}
+use Rattle.fancy_states.specs.Cells.{HasRow, ways_at}
+use Rattle.fancy_states.specs.Search.{BegunIn, Under, leftmost_in}
+use Rattle.fancy_states.specs.Ways.{tagged}
 
 -- where the match begins and ends that is looked for, if there is one, by how deep the code is run
 abbrev pub Goal : Type 0

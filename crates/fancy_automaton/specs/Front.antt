@@ -3,14 +3,14 @@ use Rattle.std.specs.Prelude.{◌≡◌, ◌+◌, ◌≤◌, ℕ, true, List, []
 use Rattle.fancy_input.specs.declared.span.Span.{Span}
 use Rattle.fancy_code.specs.declared.attempt.Attempt.{Attempt}
 use Rattle.fancy_code.specs.Attempt.{may_end_in}
-use Rattle.fancy_automaton.specs.declared.cells.Cells.{Cells}
+use Rattle.fancy_states.specs.declared.cells.Cells.{Cells}
 use Rattle.fancy_automaton.specs.declared.front.Front.{Front}
 use Rattle.fancy_automaton.specs.declared.hop.Stand.{Stand}
-use Rattle.fancy_automaton.specs.declared.trail.Hit.{Hit}
-use Rattle.fancy_automaton.specs.declared.trail.Trail.{Trail}
-use Rattle.fancy_automaton.specs.Cells.{IsBounded, IsFor, HasRow, ways_at}
-use Rattle.fancy_automaton.specs.Search.{Going, IsFollowed}
-use Rattle.fancy_automaton.specs.Trail.{starts_in, found_in_trail, AllVisited, HitIn, most_visits}
+use Rattle.fancy_states.specs.declared.trail.Hit.{Hit}
+use Rattle.fancy_states.specs.declared.trail.Trail.{Trail}
+use Rattle.fancy_states.specs.Cells.{IsBounded, IsFor, HasRow, ways_at}
+use Rattle.fancy_states.specs.Search.{Going, IsFollowed}
+use Rattle.fancy_states.specs.Trail.{starts_in, found_in_trail, AllVisited, HitIn, most_visits}
 
 -- the instructions that wait
 abbrev pub ways_of : Cells → Front → List ℕ

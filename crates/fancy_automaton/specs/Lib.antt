@@ -1,15 +1,3 @@
-pub mod Ways
-pub mod Marks
-pub mod Counts
-pub mod Futures
-pub mod Steps
-pub mod Joins
-pub mod Search
-pub mod Origins
-pub mod Transitions
-pub mod Cells
-pub mod Trail
 pub mod Front
 pub mod Sole
 pub mod Decided
-pub mod Remembered

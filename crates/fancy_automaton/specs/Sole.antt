@@ -4,21 +4,17 @@ use Rattle.fancy_input.specs.declared.span.Span.{Span}
 use Rattle.fancy_code.specs.declared.attempt.Attempt.{Attempt}
 use Rattle.fancy_code.specs.Attempt.{context_in, may_end_in}
 use Rattle.fancy_alphabet.specs.Classes.{IsStart}
-use Rattle.fancy_automaton.specs.declared.cells.Cells.{Cells}
+use Rattle.fancy_states.specs.declared.cells.Cells.{Cells}
 use Rattle.fancy_automaton.specs.declared.follow.Sole.{Sole}
 use Rattle.fancy_automaton.specs.declared.hop.Stand.{Stand}
-use Rattle.fancy_automaton.specs.declared.transitions.Transition.{Transition}
-use Rattle.fancy_automaton.specs.Cells.{IsBounded, IsFor, HasRow}
-use Rattle.fancy_automaton.specs.Search.{Going, IsFollowed}
+use Rattle.fancy_states.specs.declared.transitions.Transition.{Transition}
+use Rattle.fancy_states.specs.Trail.{match_from}
+use Rattle.fancy_states.specs.Cells.{IsBounded, IsFor, HasRow}
+use Rattle.fancy_states.specs.Search.{Going, IsFollowed}
 
 -- where a step of the table leads
 abbrev pub stood : Stand → Transition → Stand
 stood at t = record { place = at.place + 1; next = t.next; begun = t.begun; opened = t.opened }
-
--- a match from a place on, if it ends
-abbrev pub match_from : ℕ → Option ℕ → Option Span
-match_from start None = None
-match_from start (Some end) = Some (record { start = start; end = end })
 
 -- Where a search stands: these ways wait there, which began at these places, and this was found. A match may begin and end there.
 pub record IsAt (a : Attempt) (cells : Cells) (at : Stand) (ways starts : List ℕ) (found : Option Span) : Type 0 where

@@ -5,20 +5,20 @@ ghost use Rattle.fancy_code.specs.Attempt.{may_end_in};
 ghost use Rattle.fancy_code.specs.CodeLength.{code_len};
 ghost use Rattle.fancy_input.specs.Work.{steps_of};
 ghost use Rattle.fancy_prefilter.specs.Seen.{MayStart, NoneMayStart};
-ghost use Rattle.fancy_automaton.specs.Cells.{HasPlace, HasRow, HoldsFor, IsFor, ways_at};
-ghost use Rattle.fancy_automaton.specs.Counts.{AddsSteps};
+ghost use Rattle.fancy_states.specs.Cells.{HasPlace, HasRow, HoldsFor, IsFor, ways_at};
+ghost use Rattle.fancy_states.specs.Counts.{AddsSteps};
 ghost use Rattle.fancy_automaton.specs.Decided.{Goal, IsDecided, Rests, attempt_goal, later_end};
-ghost use Rattle.fancy_automaton.specs.Search.{BegunIn, Passes, IsFollowed, ends_in};
+ghost use Rattle.fancy_states.specs.Search.{BegunIn, Passes, IsFollowed, ends_in};
 
-use crate::cells::{Cells, origin, restart, seen_at, step_at};
 use crate::follow::{Sole, lengthen};
 use crate::front::place_after;
 use crate::hop::{Stand, row_start};
-use crate::trail::span_from;
 use fancy_code::attempt::Attempt;
-use fancy_code::options::is_match_boundary;
 use fancy_input::span::Span;
 use fancy_input::work::Work;
+use fancy_meaning::options::is_match_boundary;
+use fancy_states::cells::{Cells, origin, restart, seen_at, step_at};
+use fancy_states::trail::span_from;
 use std::alloc::AllocError;
 
 /// Whether a match may begin at a place, by the byte that stands there.

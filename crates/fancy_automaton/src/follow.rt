@@ -3,20 +3,20 @@
 ghost use Rattle.std.specs.Prelude.{◌≡◌, ◌+◌, ◌<◌, ◌≤◌, [], ℕ, None, IfSome, is_some, length, true};
 ghost use Rattle.fancy_code.specs.Attempt.{may_end_in};
 ghost use Rattle.fancy_prefilter.specs.Seen.{MayStart};
-ghost use Rattle.fancy_automaton.specs.Cells.{HasRows, HoldsFor, IsIdle, ways_at};
-ghost use Rattle.fancy_automaton.specs.Search.{Going, IsFollowed, Passes};
+ghost use Rattle.fancy_states.specs.Cells.{HasRows, HoldsFor, IsIdle, ways_at};
+ghost use Rattle.fancy_states.specs.Search.{Going, IsFollowed, Passes};
 ghost use Rattle.fancy_automaton.specs.Sole.{IsAmid, IsSole, Reaches};
 ghost use Rattle.fancy_automaton.specs.Decided.{Goal, IsDecided, IsPlaced, Opens};
 
-use crate::cells::Cells;
 use crate::hop::{Stand, ahead_of, idle_row, row_start, stand_after};
-use crate::origin::Origin;
-use crate::rows::Target;
-use crate::trail::VISITS;
-use crate::transitions::Entry;
 use fancy_code::attempt::Attempt;
-use fancy_code::options::is_match_boundary;
+use fancy_meaning::options::is_match_boundary;
 use fancy_prefilter::candidates::next_candidate;
+use fancy_states::cells::Cells;
+use fancy_states::origin::Origin;
+use fancy_states::rows::Target;
+use fancy_states::trail::VISITS;
+use fancy_states::transitions::Entry;
 
 /// A search whose ways that wait all began at one place, and so did the match that was found, if one was.
 #[derive(Clone, Copy)]

@@ -4,29 +4,29 @@ ghost use Rattle.std.specs.Prelude.{◌≡◌, ◌+◌, ◌<◌, ◌≤◌, ℕ,
 ghost use Rattle.fancy_code.specs.Attempt.{context_in, may_end_in};
 ghost use Rattle.fancy_alphabet.specs.Classes.{IsStart};
 ghost use Rattle.fancy_code.specs.CodeLength.{code_len};
-ghost use Rattle.fancy_code.specs.Reading.{unit_read};
+ghost use Rattle.fancy_meaning.specs.Reading.{unit_read};
 ghost use Rattle.fancy_code.specs.declared.attempt.Attempt.{Attempt};
-ghost use Rattle.fancy_automaton.specs.Cells.{HasPlace, KeepsHolding, HoldsFor};
-ghost use Rattle.fancy_automaton.specs.Trail.{HitIn, most_visits};
+ghost use Rattle.fancy_states.specs.Cells.{HasPlace, KeepsHolding, HoldsFor};
+ghost use Rattle.fancy_states.specs.Trail.{HitIn, most_visits};
 ghost use Rattle.fancy_automaton.specs.Front.{IsFront, ways_of, found_of, KeepsFront, Stands, GoesOn, TakesStep};
 ghost use Rattle.fancy_automaton.specs.Sole.{IsSole};
 ghost use Rattle.fancy_alphabet.specs.Units.{place_after};
-ghost use Rattle.fancy_automaton.specs.Counts.{AddsSteps};
+ghost use Rattle.fancy_states.specs.Counts.{AddsSteps};
 
-use crate::cells::{Cells, is_told, remembered, restart, seen_at, step_at};
 use crate::follow::{Sole, follow, next_place};
 use crate::hop::{Stand, row_start, run};
-use crate::trail::{
-    Hit, Trail, VISITS, Visit, hit_from, note_hit, row_at, settled, shared_start, span_of,
-    start_at, starts_in,
-};
 use fancy_alphabet::sight::{Sight, ascii_at};
 use fancy_code::attempt::Attempt;
 use fancy_code::code::Code;
-use fancy_code::options::is_match_boundary;
-use fancy_code::reading::Reading;
 use fancy_input::span::Span;
 use fancy_input::work::Work;
+use fancy_meaning::options::is_match_boundary;
+use fancy_meaning::reading::Reading;
+use fancy_states::cells::{Cells, is_told, remembered, restart, seen_at, step_at};
+use fancy_states::trail::{
+    Hit, Trail, VISITS, Visit, hit_from, note_hit, row_at, settled, shared_start, span_of,
+    start_at, starts_in,
+};
 use std::alloc::AllocError;
 use std::mem;
 

@@ -2,20 +2,20 @@
 
 ghost use Rattle.std.specs.Prelude.{◌≡◌, ◌<◌, ◌≤◌, ℕ, List, Some, None, IfOk, IfSome, length, slice_get};
 ghost use Rattle.fancy_code.specs.Attempt.{context_in};
-ghost use Rattle.fancy_automaton.specs.Cells.{IsBounded, IsIdle, row_if};
+ghost use Rattle.fancy_states.specs.Cells.{IsBounded, IsIdle, row_if};
 ghost use Rattle.fancy_automaton.specs.Front.{IsFront, front_at, Stands};
 ghost use Rattle.fancy_automaton.specs.Sole.{stood};
-ghost use Rattle.fancy_automaton.specs.Trail.{found_in_trail, hit_or, most_visits};
-ghost use Rattle.fancy_automaton.specs.declared.trail.Trail.{Trail};
+ghost use Rattle.fancy_states.specs.Trail.{found_in_trail, hit_or, most_visits};
+ghost use Rattle.fancy_states.specs.declared.trail.Trail.{Trail};
 ghost use Rattle.fancy_alphabet.specs.Classes.{IsStart};
-ghost use Rattle.fancy_automaton.specs.Transitions.{IsEntry, IsTransition};
+ghost use Rattle.fancy_states.specs.Transitions.{IsEntry, IsTransition};
 ghost use Rattle.fancy_alphabet.specs.declared.sight.Sight.{Sight};
-ghost use Rattle.fancy_automaton.specs.declared.cells.Cell.{Cell};
+ghost use Rattle.fancy_states.specs.declared.cells.Cell.{Cell};
 
-use crate::cells::Cells;
-use crate::trail::{Hit, Trail, VISITS, Visit, note_hit, start_at};
-use crate::transitions::{Entry, Transition};
 use fancy_code::attempt::Attempt;
+use fancy_states::cells::Cells;
+use fancy_states::trail::{Hit, Trail, VISITS, Visit, note_hit, start_at};
+use fancy_states::transitions::{Entry, Transition};
 use std::alloc::AllocError;
 
 /// Where a search stands.

@@ -15,19 +15,7 @@
 #![tactic(auto)]
 
 mod anchored;
-pub mod cells;
-pub mod closure;
 pub mod follow;
 pub mod front;
-pub mod hints;
 pub mod hop;
-pub mod join;
-pub mod marks;
-mod origin;
-pub mod plain;
-pub mod rows;
 pub mod search;
-pub mod step;
-pub mod trail;
-pub mod transitions;
-pub mod way;

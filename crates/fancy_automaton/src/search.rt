@@ -7,28 +7,28 @@ ghost use Rattle.fancy_code.specs.Code.{instrs_of};
 ghost use Rattle.fancy_code.specs.CodeLength.{code_len};
 ghost use Rattle.fancy_code.specs.Compile.{IsCodeOf};
 ghost use Rattle.fancy_code.specs.Queries.{query_of, unfiltered, answer_with, most_steps};
-ghost use Rattle.fancy_code.specs.Search.{search};
+ghost use Rattle.fancy_meaning.specs.Search.{search};
 ghost use Rattle.fancy_prefilter.specs.Seen.{NoneMayStart};
 ghost use Rattle.fancy_input.specs.Work.{steps_of, returns_of, units_of};
-ghost use Rattle.fancy_automaton.specs.Cells.{IsFor, IsBounded, HoldsFor};
-ghost use Rattle.fancy_automaton.specs.Futures.{ArePlain};
-ghost use Rattle.fancy_automaton.specs.Search.{BegunIn, KeepsPlaces, at_position, ends_in, leftmost_in, IsFollowed};
-ghost use Rattle.fancy_automaton.specs.Counts.{AddsSteps};
+ghost use Rattle.fancy_states.specs.Cells.{IsFor, IsBounded, HoldsFor};
+ghost use Rattle.fancy_states.specs.Futures.{ArePlain};
+ghost use Rattle.fancy_states.specs.Search.{BegunIn, KeepsPlaces, at_position, ends_in, leftmost_in, IsFollowed};
+ghost use Rattle.fancy_states.specs.Counts.{AddsSteps};
 ghost use Rattle.fancy_automaton.specs.Sole.{IsSole};
 
 use crate::anchored::span_at;
-use crate::cells::{Cells, MORE_ROOM, ROOM, origin};
 use crate::follow::{Sole, follow, next_place};
 use crate::front::Front;
-use crate::trail::span_from;
 use fancy_code::attempt::Attempt;
 use fancy_code::code::Code;
 use fancy_code::found::Found;
-use fancy_code::options::SearchOptions;
 use fancy_input::input::Request;
 use fancy_input::refusal::SearchRefusal;
 use fancy_input::span::Span;
 use fancy_input::work::Work;
+use fancy_meaning::options::SearchOptions;
+use fancy_states::cells::{Cells, MORE_ROOM, ROOM, origin};
+use fancy_states::trail::span_from;
 use std::alloc::AllocError;
 
 /// Goes on with a trail, from where a walk without one ended: where the leftmost match begins and ends that is preferred there, if

@@ -11,7 +11,7 @@ use Rattle.fancy_tree.proofs.PatternLemmas.{pattern-Concat, pattern-Alternation}
 use Rattle.fancy_code.specs.Instructions.{Instruction}
 use Rattle.fancy_code.specs.Instructions as i
 use Rattle.fancy_code.specs.Compile.{is_easy_instr, are_easy, StaysEasy, IsEasyInstr, AreEasy, split_of}
-use Rattle.fancy_code.specs.Easy.{is_easy, all_easy}
+use Rattle.fancy_meaning.specs.Easy.{is_easy, all_easy}
 
 true_is_false : false ≡ true → ⊥
 true_is_false h = cc

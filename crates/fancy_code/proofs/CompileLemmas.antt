@@ -19,7 +19,7 @@ use Rattle.fancy_code.specs.Instructions as i
 use Rattle.fancy_code.specs.declared.code.Entry.{Entry}
 use Rattle.fancy_code.specs.declared.emitter.Emitter.{Emitter}
 use Rattle.fancy_code.specs.Emitted.{Appends, Emits, PutsShared, PutsBoth, emitted, len_of}
-use Rattle.fancy_code.specs.Easy.{is_easy, kind_of}
+use Rattle.fancy_meaning.specs.Easy.{is_easy, kind_of}
 use Rattle.fancy_code.specs.Compile.{StaysEasy, is_easy_instr, Has, HasBoth, Extends, Keeps, Means, Emitted, CopiesBy, CopiesEmitted, OptionalsBy, OptionalsEmitted, StarEmitted, RestEmitted, RepeatBy, AtomicBy, ConditionBy, TestBy, TestEmitted, EitherBy, BackBy, Behind, BackEmitted, BehindEmitted, stopping, split_of, look_of}
 use Rattle.fancy_code.proofs.CodeLemmas.{keeps_on, keeps_set, emitted_later, both_later, emitted_set, has_set}
 

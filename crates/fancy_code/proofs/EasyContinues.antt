@@ -5,7 +5,7 @@ use Rattle.fancy_tree.specs.Sets.{has}
 use Rattle.fancy_tree.specs.declared.tree.Assertion.{Assertion}
 use Rattle.fancy_tree.specs.declared.tree.Assertion.TheVariants.{TextStart, TextEnd, LineStart, LineEnd, LineStartCrlf, LineEndCrlf, LastLine, LastLineCrlf, WordBoundary, NotWordBoundary, WordStart, WordEnd, WordStartHalf, WordEndHalf}
 use Rattle.fancy_code.specs.Instructions.{Instruction, Match, Fail, Character, Member, RawByte, Assert, Split, Open, Close, Enter, Commit, Look, Deny, Test, Back, Recall, Keep, Continue, Taken}
-use Rattle.fancy_code.specs.Context.{Context, State, moved_to, with_capture, unit_at, past_item, past_byte, holds}
+use Rattle.fancy_meaning.specs.Context.{Context, State, moved_to, with_capture, unit_at, past_item, past_byte, holds}
 use Rattle.fancy_code.specs.Run.{Raw, Note, choice_opened, fetched, Go, before, join, onward, instr_at, act, run}
 use Rattle.fancy_code.specs.Compile.{IsEasyInstr, AreEasy}
 

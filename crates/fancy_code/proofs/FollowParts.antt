@@ -6,12 +6,12 @@ use Rattle.std.proofs.lemmas.List.{append-nil}
 use Rattle.fancy_code.specs.Instructions.{Instruction}
 use Rattle.fancy_code.specs.Instructions as i
 use Rattle.fancy_code.specs.declared.code.Entry.{Entry}
-use Rattle.fancy_code.specs.Context.{Context, State, moved_to, with_capture}
-use Rattle.fancy_code.specs.Events.{Event, Walk, stay, bind, either, prefer, move, copies, optionals, turns, star}
+use Rattle.fancy_meaning.specs.Context.{Context, State, moved_to, with_capture}
+use Rattle.fancy_meaning.specs.Events.{Event, Walk, stay, bind, either, prefer, move, copies, optionals, turns, star}
 use Rattle.fancy_code.specs.Run.{Ends, CodeGives, onward, act, run}
 use Rattle.fancy_code.specs.Compile.{Has, HasBoth, split_of, turn_depth, copies_depth, optionals_depth, rest_depth, Below, CopiesBy, OptionalsBy, RepeatBy}
-use Rattle.fancy_code.specs.Trace.{repeated}
-use Rattle.fancy_code.proofs.EventLemmas.{bind-bind, bind-either, bind-prefer}
+use Rattle.fancy_meaning.specs.Trace.{repeated}
+use Rattle.fancy_meaning.proofs.EventLemmas.{bind-bind, bind-either, bind-prefer}
 use Rattle.fancy_code.proofs.RunLemmas.{given_at, given_onward, gives_act, gives_more, gives_fail, gives_prefer, gives_split, gives_open, gives_close}
 
 -- the two agree below lo

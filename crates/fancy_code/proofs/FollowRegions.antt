@@ -5,15 +5,15 @@ use Rattle.std.proofs.lemmas.List.{append-nil}
 use Rattle.fancy_code.specs.Instructions.{Instruction}
 use Rattle.fancy_code.specs.Instructions as i
 use Rattle.fancy_code.specs.declared.code.Entry.{Entry}
-use Rattle.fancy_code.specs.Context.{Context, State, moved_to, units_back}
-use Rattle.fancy_code.specs.Backreference.{past_backreference}
-use Rattle.fancy_code.specs.Events.{Event, mark, return, Walk, stay, bind, guarded, any, ends_look, put_back, looked, move, holding}
-use Rattle.fancy_code.specs.Trace.{from_before}
+use Rattle.fancy_meaning.specs.Context.{Context, State, moved_to, units_back}
+use Rattle.fancy_meaning.specs.Backreference.{past_backreference}
+use Rattle.fancy_meaning.specs.Events.{Event, mark, return, Walk, stay, bind, guarded, any, ends_look, put_back, looked, move, holding}
+use Rattle.fancy_meaning.specs.Trace.{from_before}
 use Rattle.fancy_code.specs.Run.{Ends, CodeGives, Note, returned, before, resume, halt, act, run}
 use Rattle.fancy_code.specs.Compile.{Has, HasBoth, Below, BackBy, LooksBy, look_of, stopping}
-use Rattle.fancy_code.proofs.EventLemmas.{bind-stay, bind-guarded}
+use Rattle.fancy_meaning.proofs.EventLemmas.{bind-stay, bind-guarded}
 use Rattle.fancy_code.proofs.RunLemmas.{given_at, given_mark, given_return, given_guard, given_rejoin, given_back, given_holding, gives_nothing, gives_act, gives_more, gives_fail, gives_match, gives_commit}
-use Rattle.fancy_code.proofs.Past.{back_low, recall_beyond}
+use Rattle.fancy_meaning.proofs.Past.{back_low, recall_beyond}
 use Rattle.fancy_code.proofs.FollowParts.{Follow, Still, at_trace, below_same, below_trans}
 
 -- a way stops at a place past p, or at p itself

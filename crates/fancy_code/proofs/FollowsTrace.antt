@@ -7,15 +7,15 @@ use Rattle.fancy_tree.specs.Sets.{has}
 use Rattle.fancy_code.specs.Instructions.{Instruction}
 use Rattle.fancy_code.specs.Instructions as i
 use Rattle.fancy_code.specs.declared.code.Entry.{Entry}
-use Rattle.fancy_code.specs.Context.{Context, State, group_span, past_item, past_byte, holds, continues}
-use Rattle.fancy_code.specs.Events.{mark, return, stay, guarded, any, move, looked}
-use Rattle.fancy_code.specs.Trace.{trace, behind, repeated}
+use Rattle.fancy_meaning.specs.Context.{Context, State, group_span, past_item, past_byte, holds, continues}
+use Rattle.fancy_meaning.specs.Events.{mark, return, stay, guarded, any, move, looked}
+use Rattle.fancy_meaning.specs.Trace.{trace, behind, repeated}
 use Rattle.fancy_code.specs.Run.{CodeGives}
 use Rattle.fancy_tree.specs.GroupNumbers.{Numbered}
 use Rattle.fancy_tree.specs.Sizes.{size, is_empty}
 use Rattle.fancy_code.specs.Compile.{Has, Means, Behind, AtomicBy, ConditionBy, EitherBy, depth, behind_depth, copies_depth, rest_depth, stopping}
 use Rattle.fancy_code.proofs.RunLemmas.{gives_more, gives_split}
-use Rattle.fancy_code.proofs.Past.{item_beyond, byte_beyond}
+use Rattle.fancy_meaning.proofs.Past.{item_beyond, byte_beyond}
 use Rattle.fancy_code.proofs.FollowParts.{Follow, deeper, none_follow, item_follows, both_follow, either_follow, group_follows, repeat_follows}
 use Rattle.fancy_code.proofs.FollowRegions.{Kept, atomic_follows, condition_follows, look_follows, stops_gives, back_gives, test_follows, keep_follows, recall_follows}
 

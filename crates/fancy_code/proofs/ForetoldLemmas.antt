@@ -17,8 +17,8 @@ use Rattle.fancy_code.specs.Branches.{AreBranches, Chooses, OpensTo, TestsTo}
 use Rattle.fancy_prefilter.specs.declared.branches.Branches.{Branches}
 use Rattle.fancy_code.specs.declared.code.Code.{Code}
 use Rattle.fancy_code.specs.Code.{instrs_of}
-use Rattle.fancy_code.specs.Context.{Context, State, Unit_at, moved_to, with_capture, unit_in, unit_at, past_item, holds, option_to}
-use Rattle.fancy_code.specs.Forward.{EachOutcome}
+use Rattle.fancy_meaning.specs.Context.{Context, State, Unit_at, moved_to, with_capture, unit_in, unit_at, past_item, holds, option_to}
+use Rattle.fancy_meaning.specs.Forward.{EachOutcome}
 use Rattle.fancy_code.specs.Instructions.{Instruction, Fail, Character, Member, Assert, Split, Open, Close}
 use Rattle.fancy_code.specs.Run.{Raw, Note, Stop, Sign, choice_opened, returned, fetched, Go, AllStops, before, join, onward, instr_at, act, run, erase, Foretells}
 use Rattle.fancy_code.specs.Compile.{IsCodeOf, depth}
@@ -26,12 +26,12 @@ use Rattle.fancy_input.specs.Lines.{is_line_feed}
 use Rattle.fancy_prefilter.specs.NextOpening.{IsWithinLine}
 use Rattle.fancy_prefilter.specs.Rows.{Wider, HasEncoding, HasItems, HasNone}
 use Rattle.fancy_code.specs.Foretold.{Foretold, ForetoldPast, AreForetold, IsAnchored, StartsLines}
-use Rattle.fancy_code.specs.Search.{Query, answer_at, context_of, initial}
-use Rattle.fancy_code.proofs.BeginLemmas.{accepted_holds}
-use Rattle.fancy_code.proofs.OpenLemmas.{unit_wide}
+use Rattle.fancy_meaning.specs.Search.{Query, answer_at, context_of, initial}
+use Rattle.fancy_meaning.proofs.BeginLemmas.{accepted_holds}
+use Rattle.fancy_meaning.proofs.OpenLemmas.{unit_wide}
 use Rattle.fancy_code.proofs.RunMore.{past_end}
-use Rattle.fancy_code.proofs.SearchLemmas.{is-no_answer}
-use Rattle.fancy_code.proofs.SeenLemmas.{unit_item, only_one, item_of}
+use Rattle.fancy_meaning.proofs.SearchLemmas.{is-no_answer}
+use Rattle.fancy_meaning.proofs.SeenLemmas.{unit_item, only_one, item_of}
 use Rattle.fancy_code.proofs.WholeCode.{program_gives}
 
 -- what each stop says

@@ -3,11 +3,11 @@ use Rattle.std.proofs.Common.{◌≡◌, ℕ, zero, suc, Bool, true, false, ◌=
 use Rattle.std.specs.Prelude.{if◌then◌else◌, nat_le, slice_index, slice_set}
 use Rattle.fancy_tree.specs.Sets.{has}
 use Rattle.fancy_code.specs.Instructions.{Instruction, Match, Fail, Character, Member, RawByte, Assert, Split, Open, Close, Enter, Commit, Look, Deny, Test, Back, Recall, Keep, Continue, Taken}
-use Rattle.fancy_code.specs.Context.{Context, State, moved_to, with_capture, past_item, past_byte, holds}
-use Rattle.fancy_code.specs.Events.{Event, mark, return, outcome, outcomes_in}
+use Rattle.fancy_meaning.specs.Context.{Context, State, moved_to, with_capture, past_item, past_byte, holds}
+use Rattle.fancy_meaning.specs.Events.{Event, mark, return, outcome, outcomes_in}
 use Rattle.fancy_code.specs.Run.{Raw, Note, Stop, Sign, choice_opened, returned, fetched, Go, Ends, AllStops, before, join, onward, instr_at, act, run, erase}
 use Rattle.fancy_code.specs.Compile.{IsEasyInstr, AreEasy}
-use Rattle.fancy_code.specs.Search.{first_one}
+use Rattle.fancy_meaning.specs.Search.{first_one}
 use Rattle.fancy_code.specs.Thread.{first_accepted, ends_well}
 
 abbrev KeepsAt : ℕ → Ends

@@ -7,7 +7,7 @@ use Rattle.std.proofs.lemmas.Option.{none-some}
 use Rattle.std.proofs.lemmas.List.{get_or_append_left, get_or-map, length-map}
 use Rattle.std.proofs.Math.Seq.{get_or-append_seam}
 use Rattle.fancy_tree.specs.declared.char_set.CharSet.{CharSet}
-use Rattle.fancy_code.specs.Context.{option_to}
+use Rattle.fancy_meaning.specs.Context.{option_to}
 use Rattle.fancy_code.specs.declared.code.Instr.{Instr}
 use Rattle.fancy_code.specs.declared.code.Instr.TheVariants as coded
 use Rattle.fancy_code.specs.Instructions.{Instruction, with_set, with_sets, Match, Fail, Character, Member, RawByte, Assert, Split, Open, Close, Enter, Commit, Look, Deny, Test, Back, Recall, Keep, Continue, Taken}

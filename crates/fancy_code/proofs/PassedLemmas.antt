@@ -12,11 +12,12 @@ use Rattle.fancy_code.specs.Branches.{AreBranches}
 use Rattle.fancy_code.specs.Code.{instrs_of}
 use Rattle.fancy_code.specs.Compile.{IsCodeOf}
 use Rattle.fancy_code.specs.Foretold.{AreForetold}
-use Rattle.fancy_code.specs.Search.{Query, answer_at, answer_from, context_of}
+use Rattle.fancy_meaning.specs.Search.{Query, answer_at, answer_from, context_of}
 use Rattle.fancy_code.proofs.ForetoldLemmas.{none_foretold, none_anchored, none_branched, start_fails, within_line}
-use Rattle.fancy_code.proofs.OpenLemmas.{opening_stands}
-use Rattle.fancy_code.proofs.SearchLemmas.{is-no_answer}
-use Rattle.fancy_code.proofs.SkipLemmas.{skip_none, none_starts}
+use Rattle.fancy_meaning.proofs.OpenLemmas.{opening_stands}
+use Rattle.fancy_meaning.proofs.SearchLemmas.{is-no_answer}
+use Rattle.fancy_meaning.proofs.SkipLemmas.{skip_none}
+use Rattle.fancy_code.proofs.StartLemmas.{none_starts}
 
 module _ (q : Query) (code : Code) (is : IsCodeOf q.sought.pattern code) (meant : q.sought.meaning ≡ code.meaning) (inside : q.request.range_end ≤ length q.haystack)
     (bytes : (k : ℕ) → slice_index q.haystack k < 256) where

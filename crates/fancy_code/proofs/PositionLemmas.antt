@@ -3,18 +3,18 @@ use Rattle.std.proofs.Common.{◌≡◌, ℕ, suc, ◌+◌, ◌-◌, ◌<◌, �
 use Rattle.std.proofs.lemmas.List.{length-replicate}
 use Rattle.std.proofs.lemmas.Bool.{true≢false}
 use Rattle.std.specs.Prelude.{option_map, if◌then◌else◌}
-use Rattle.std.specs.Option.{option_or}
 use Rattle.fancy_input.specs.declared.input.Request.{Request}
 use Rattle.fancy_input.specs.Requests.{effective_start, positions}
 use Rattle.fancy_input.specs.declared.span.Span.{Span}
 use Rattle.fancy_code.specs.declared.code.Code.{Code}
-use Rattle.fancy_code.specs.Context.{Context, State}
-use Rattle.fancy_code.specs.Trace.{trace, outcomes}
+use Rattle.fancy_meaning.specs.Context.{Context, State}
+use Rattle.fancy_meaning.specs.Trace.{trace, outcomes}
 use Rattle.fancy_code.specs.Code.{instrs_of}
 use Rattle.fancy_code.specs.Run.{Raw, Given}
 use Rattle.fancy_code.specs.Compile.{IsCodeOf, AreEasy, depth}
-use Rattle.fancy_code.specs.Search.{Query, context_of, initial, trace_at, outcomes_at, is_match_boundary, accepted, first_one, longest_one, answer_at, answer_from}
+use Rattle.fancy_meaning.specs.Search.{Query, context_of, initial, trace_at, outcomes_at, is_match_boundary, accepted, first_one, longest_one, answer_at, attempt, search}
 use Rattle.fancy_code.specs.Thread.{Thread, empty_slot, slot_span, slot_from, state_of, starts_of, IsKnown, Known, thread_run, events_of, first_accepted, ends_well}
+use Rattle.fancy_meaning.proofs.AttemptLemmas.{taken_at, anchored_query, anchored_search}
 use Rattle.fancy_code.proofs.EasyContinues.{continued_at, run_elsewhere}
 use Rattle.fancy_code.proofs.ThreadLemmas.{map-replicate}
 use Rattle.fancy_code.proofs.WholeCode.{Whole, program_gives}
@@ -82,33 +82,12 @@ module _ (q : Query) (code : Code) (is : IsCodeOf q.sought.pattern code) (groups
       ∙ sym (first_filtered (accepted q p) (trace_at q p))
       ∙ sym (ap (λ (b : Bool). if b then (longest_one (filter (accepted q p) (outcomes_at q p))) else (first_one (filter (accepted q p) (outcomes_at q p)))) first)
 
-unroll_suc : (q : Query) (m p : ℕ)
-    → answer_from q (suc m) p ≡ option_or (option_map (λ s. record { position = p; state = s }) (answer_at q p)) (answer_from q m (p + 1))
-unfolding answer_from
-unroll_suc q m p = refl
-
-module _ (q : Query) (n m p : ℕ) (e : n ≡ suc m) where
-  unroll : answer_from q n p ≡ option_or (option_map (λ s. record { position = p; state = s }) (answer_at q p)) (answer_from q m (p + 1))
-  unroll = subst (λ (k : ℕ). answer_from q k p ≡ option_or (option_map (λ s. record { position = p; state = s }) (answer_at q p)) (answer_from q m (p + 1))) (sym e) (unroll_suc q m p)
-
-  pub search_hit : (s : State) → answer_at q p ≡ Some s → answer_from q n p ≡ Some (record { position = p; state = s })
-  search_hit s h =
-      unroll ∙ ap (λ (o : Option State). option_or (option_map (λ s. record { position = p; state = s }) o) (answer_from q m (p + 1))) h
-
-  pub search_miss : answer_at q p ≡ None → answer_from q n p ≡ answer_from q m (p + 1)
-  search_miss h =
-      unroll ∙ ap (λ (o : Option State). option_or (option_map (λ s. record { position = p; state = s }) o) (answer_from q m (p + 1))) h
-
 -- nothing is found at a position where no match may begin
 pub search_skip : (q : Query) (p : ℕ) → q.sought.longest ≡ false → is_match_boundary q.sought.on_boundaries q.haystack p ≡ false → answer_at q p ≡ None
 unfolding answer_at
 search_skip q p first may =
     ap (λ (b : Bool). if b then (longest_one (filter (accepted q p) (outcomes_at q p))) else (first_one (filter (accepted q p) (outcomes_at q p)))) first
     ∙ none_filtered (accepted q p) (λ s. ap (λ (b : Bool). b && (is_match_boundary q.sought.on_boundaries q.haystack s.kept && (is_match_boundary q.sought.on_boundaries q.haystack s.place && (not q.sought.not_empty || not (s.kept == s.place))))) may) (outcomes_at q p)
-
-pub search_over : (q : Query) (n p : ℕ) → n ≡ 0 → answer_from q n p ≡ None
-unfolding answer_from
-search_over q n p e = ap (λ (k : ℕ). answer_from q k p) e
 
 no_positions : (b : Bool) (n : ℕ) → n ≡ 0 → (if b then (min 1 n) else n) ≡ 0
 no_positions true n e = ap (min 1) e
@@ -123,3 +102,22 @@ one_position false n le = le
 
 pub positions_some : (r : Request) → effective_start r ≤ r.range_end → 1 ≤ positions r
 positions_some r le = one_position r.anchored (r.range_end + 1 - effective_start r) (omega arith)
+
+-- easy code answers the same at a position wherever `\G` holds
+module _ (q : Query) (code : Code) (is : IsCodeOf q.sought.pattern code) (groups : q.sought.groups ≡ code.groups) (meant : q.sought.meaning ≡ code.meaning)
+    (only : q.sought.not_empty ≡ false) (first : q.sought.longest ≡ false) (inside : q.request.range_end ≤ length q.haystack) (easy : AreEasy (instrs_of code))
+    (p : ℕ) (to : p ≤ q.request.range_end) where
+  alike_by : (b : Bool) → is_match_boundary q.sought.on_boundaries q.haystack p ≡ b → answer_at (anchored_query q p false) p ≡ answer_at q p
+  alike_by false may = search_skip (anchored_query q p false) p first may ∙ sym (search_skip q p first may)
+  alike_by true may =
+      let other = anchored_query q p false in
+      let x = context_of other in
+      sym (attempt_answer other code is groups meant only first inside x x.continues_at refl easy p (first_thread code p) refl to may)
+      ∙ attempt_answer q code is groups meant only first inside x x.continues_at refl easy p (first_thread code p) refl to may
+
+  pub easy_alike : attempt (anchored_query q p false) p ≡ attempt q p
+  easy_alike = ap (option_map (taken_at p)) (alike_by (is_match_boundary q.sought.on_boundaries q.haystack p) refl)
+
+  -- the anchored search answers as the attempt does
+  pub anchored_easy : effective_start q.request ≤ p → search (anchored_query q p false) ≡ attempt q p
+  anchored_easy from = anchored_search q p false from to ∙ easy_alike

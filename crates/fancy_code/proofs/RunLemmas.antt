@@ -6,8 +6,8 @@ use Rattle.std.proofs.lemmas.List.{append-nil}
 use Rattle.std.proofs.lemmas.Option.{get_or_from_slice_get}
 use Rattle.fancy_tree.specs.declared.tree.Assertion.{Assertion}
 use Rattle.fancy_code.specs.Instructions.{Instruction, Match, Fail, Assert, Split, Open, Close, Commit}
-use Rattle.fancy_code.specs.Context.{Context, State, moved_to, with_capture, holds, option_to}
-use Rattle.fancy_code.specs.Events.{Event, mark, return, outcome, Walk, stay, bind, guarded, either, prefer, move, holding}
+use Rattle.fancy_meaning.specs.Context.{Context, State, moved_to, with_capture, holds, option_to}
+use Rattle.fancy_meaning.specs.Events.{Event, mark, return, outcome, Walk, stay, bind, guarded, either, prefer, move, holding}
 use Rattle.fancy_code.specs.Run.{Raw, Note, Stop, choice_opened, returned, fetched, Go, Ends, before, join, guard, fenced, onward, rejoin, erase, AllStops, Given, instr_at, act, run, CodeGives}
 use Rattle.fancy_code.specs.Compile.{Has, split_of}
 use Rattle.fancy_code.proofs.RunMore.{run_more}

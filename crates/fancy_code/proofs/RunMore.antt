@@ -4,9 +4,9 @@ use Rattle.std.specs.Prelude.{length, is_some, slice_index, slice_set, nat_le, i
 use Rattle.std.proofs.lemmas.Option.{get_or_from_slice_get, none-some}
 use Rattle.fancy_tree.specs.Sets.{has}
 use Rattle.fancy_code.specs.Instructions.{Instruction, Match, Fail, Character, Member, RawByte, Assert, Split, Open, Close, Enter, Commit, Look, Deny, Test, Back, Recall, Keep, Continue, Taken}
-use Rattle.fancy_code.specs.Context.{Context, State, moved_to, with_capture, group_span, past_item, past_byte, units_back, holds, continues, option_to}
-use Rattle.fancy_code.specs.Backreference.{past_backreference}
-use Rattle.fancy_code.specs.Events.{Event, any, ends_look}
+use Rattle.fancy_meaning.specs.Context.{Context, State, moved_to, with_capture, group_span, past_item, past_byte, units_back, holds, continues, option_to}
+use Rattle.fancy_meaning.specs.Backreference.{past_backreference}
+use Rattle.fancy_meaning.specs.Events.{Event, any, ends_look}
 use Rattle.fancy_code.specs.Run.{Raw, Note, Stop, choice_opened, returned, fetched, Go, Ends, before, join, guard, fenced, onward, rejoin, resume, halt, Given, instr_at, act, run}
 use Rattle.fancy_code.specs.Compile.{Has}
 

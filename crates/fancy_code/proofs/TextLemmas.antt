@@ -7,15 +7,15 @@ use Rattle.fancy_tree.specs.declared.tree.Meaning.{Meaning}
 use Rattle.fancy_tree.specs.declared.tree.Meaning.TheVariants.{Unicode, Bytes, AsciiText}
 use Rattle.fancy_bytes.specs.Items.{encoding}
 use Rattle.fancy_bytes.specs.Openings.{StandsBefore}
-use Rattle.fancy_code.specs.Context.{Context, State, Unit_at, moved_to, unit_at, past_item, option_to}
-use Rattle.fancy_code.specs.Events.{Event, outcome}
+use Rattle.fancy_meaning.specs.Context.{Context, State, Unit_at, moved_to, unit_at, past_item, option_to}
+use Rattle.fancy_meaning.specs.Events.{Event, outcome}
 use Rattle.fancy_code.specs.Instructions.{Instruction, Character, Match}
 use Rattle.fancy_code.specs.Run.{Raw, Note, Go, fetched, Foretells, act, before, instr_at, onward, run}
 use Rattle.fancy_code.specs.Thread.{IsKnown, events_of}
 use Rattle.fancy_code.specs.Texts.{GivesEvents, BeginsWith, EndsWith, ConsumesTo}
 use Rattle.fancy_code.proofs.ForetoldLemmas.{before_told, onward_told, foretells_all, foretells_imply, item_at}
 use Rattle.fancy_prefilter.proofs.ItemBytesLemmas.{low_text}
-use Rattle.fancy_code.proofs.ReadingLemmas.{low_unit}
+use Rattle.fancy_meaning.proofs.ReadingLemmas.{low_unit}
 
 -- an ASCII character is its byte
 

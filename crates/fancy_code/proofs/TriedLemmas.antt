@@ -8,14 +8,15 @@ use Rattle.fancy_input.specs.Requests.{effective_start, positions}
 use Rattle.fancy_tree.specs.declared.tree.Meaning.{Meaning}
 use Rattle.fancy_input.specs.declared.input.Request.{Request}
 use Rattle.fancy_code.specs.declared.code.Code.{Code}
-use Rattle.fancy_code.specs.declared.options.SearchOptions.{SearchOptions}
+use Rattle.fancy_meaning.specs.declared.options.SearchOptions.{SearchOptions}
 use Rattle.fancy_code.specs.Compile.{IsCodeOf}
 use Rattle.fancy_code.specs.Queries.{query_of}
-use Rattle.fancy_code.specs.Search.{Query, answer_at, search}
+use Rattle.fancy_meaning.specs.Search.{Query, answer_at, search}
 use Rattle.fancy_prefilter.specs.Seen.{MayStart, MayNotStart, NoneMayStart, IsNextCandidate}
-use Rattle.fancy_code.specs.Tried.{may_begin, tried, NoneTried}
-use Rattle.fancy_code.proofs.SkipLemmas.{none_here, none_starts}
-use Rattle.fancy_code.proofs.SearchLemmas.{all_none}
+use Rattle.fancy_meaning.specs.Tried.{may_begin, tried, NoneTried}
+use Rattle.fancy_meaning.proofs.SkipLemmas.{none_here}
+use Rattle.fancy_code.proofs.StartLemmas.{none_starts}
+use Rattle.fancy_meaning.proofs.SearchLemmas.{all_none}
 
 -- The positions from the one on and before the other are not tried, and nothing is found there; the other is tried, if it is one of the search.
 pub record ArePassed (q : Query) (seek : Bool) (from last place : ℕ) : Type 0 where

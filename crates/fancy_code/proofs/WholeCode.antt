@@ -3,13 +3,13 @@ use Rattle.std.proofs.Common.{◌≡◌, ℕ, ◌+◌, ◌≤◌, List, length, 
 use Rattle.fancy_tree.specs.declared.tree.Meaning.{Meaning}
 use Rattle.fancy_tree.specs.Pattern.{Pattern}
 use Rattle.fancy_code.specs.declared.code.Code.{Code}
-use Rattle.fancy_code.specs.Context.{Context, State}
-use Rattle.fancy_code.specs.Events.{stay}
-use Rattle.fancy_code.specs.Trace.{trace}
+use Rattle.fancy_meaning.specs.Context.{Context, State}
+use Rattle.fancy_meaning.specs.Events.{stay}
+use Rattle.fancy_meaning.specs.Trace.{trace}
 use Rattle.fancy_code.specs.Code.{instrs_of}
 use Rattle.fancy_code.specs.Run.{Ends, CodeGives}
 use Rattle.fancy_code.specs.Compile.{IsCodeOf, Means, depth, stopping}
-use Rattle.fancy_code.proofs.EventLemmas.{bind-stay}
+use Rattle.fancy_meaning.proofs.EventLemmas.{bind-stay}
 use Rattle.fancy_code.proofs.RunLemmas.{gives_match}
 use Rattle.fancy_code.proofs.FollowsTrace.{follows}
 

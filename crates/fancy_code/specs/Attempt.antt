@@ -3,9 +3,9 @@ use Rattle.std.specs.Prelude.{ℕ, Bool, List}
 use Rattle.fancy_code.specs.Instructions.{Instruction}
 use Rattle.fancy_code.specs.declared.attempt.Attempt.{Attempt}
 use Rattle.fancy_code.specs.Code.{instrs_of}
-use Rattle.fancy_code.specs.Context.{Context}
-use Rattle.fancy_code.specs.Reading.{search_context}
-use Rattle.fancy_code.specs.Search.{is_match_boundary}
+use Rattle.fancy_meaning.specs.Context.{Context}
+use Rattle.fancy_meaning.specs.Reading.{search_context}
+use Rattle.fancy_meaning.specs.Search.{is_match_boundary}
 
 module _ (a : Attempt) where
   -- what the code sees; easy code has no `\G`, which would hold where the table begins

@@ -4,7 +4,7 @@ use Rattle.fancy_tree.specs.declared.tree.Assertion.{Assertion}
 use Rattle.fancy_tree.specs.declared.tree.Meaning.{Meaning}
 use Rattle.fancy_prefilter.specs.Keys.{AreBelow}
 use Rattle.fancy_prefilter.specs.KeyTables.{MayStand}
-use Rattle.fancy_code.specs.Context.{Context, State}
+use Rattle.fancy_meaning.specs.Context.{Context, State}
 use Rattle.fancy_code.specs.Instructions.{Instruction, Assert, Split, Open}
 use Rattle.fancy_code.specs.Marking.{due_in}
 use Rattle.fancy_code.specs.Run.{Foretells, instr_at, run}

@@ -2,7 +2,7 @@
 use Rattle.std.specs.Prelude.{◌≡◌, ℕ, ◌<◌, Bool, true, false, List, [], ◌∷◌, Option, Some, None, slice_get, slice_index}
 use Rattle.fancy_tree.specs.declared.tree.Meaning.{Meaning}
 use Rattle.fancy_bytes.specs.Sets.{ByteFlags, member}
-use Rattle.fancy_code.specs.Context.{Context, State}
+use Rattle.fancy_meaning.specs.Context.{Context, State}
 use Rattle.fancy_code.specs.Instructions.{Instruction, Split}
 use Rattle.fancy_code.specs.Run.{Raw, Note, Stop, instr_at, run}
 use Rattle.fancy_prefilter.specs.declared.choice.Beginnings.{Beginnings}

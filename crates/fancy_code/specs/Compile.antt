@@ -13,7 +13,7 @@ use Rattle.fancy_code.specs.Instructions as i
 use Rattle.fancy_tree.specs.declared.tree.Meaning.{Meaning}
 use Rattle.fancy_tree.specs.Sizes.{size, nodes, is_empty}
 use Rattle.fancy_code.specs.CodeLength.{code_len}
-use Rattle.fancy_code.specs.Easy.{is_easy}
+use Rattle.fancy_meaning.specs.Easy.{is_easy}
 use Rattle.fancy_code.specs.Code.{instrs_of}
 use Rattle.fancy_code.specs.Branches.{AreBranches}
 use Rattle.fancy_prefilter.specs.Prefilters.{text_in, window_in, branches_in}

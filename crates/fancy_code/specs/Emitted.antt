@@ -7,7 +7,7 @@ use Rattle.fancy_tree.specs.declared.tree.Meaning.{Meaning}
 use Rattle.fancy_tree.specs.Pattern.{Pattern}
 use Rattle.fancy_code.specs.declared.code.Entry.{Entry}
 use Rattle.fancy_code.specs.Compile.{Keeps, Has, HasBoth, Emitted, StaysEasy, is_easy_instr}
-use Rattle.fancy_code.specs.Easy.{is_easy}
+use Rattle.fancy_meaning.specs.Easy.{is_easy}
 use Rattle.fancy_tree.specs.Sizes.{nodes}
 
 -- each with the edges of its set

@@ -1,7 +1,7 @@
 -- Which instructions have a mark at each place, and what it costs to go on at the others.
 use Rattle.std.specs.Prelude.{ℕ, zero, suc, ◌≡◌, ◌+◌, ◌*◌, ◌<◌, ◌≤◌, Bool, false, List, length, Option, Some, None, if◌then◌else◌, slice_index_or}
 use Rattle.fancy_code.specs.Instructions.{Instruction, Match, Fail, Character, Member, RawByte, Assert, Split, Open, Close, Enter, Commit, Look, Deny, Test, Back, Recall, Keep, Continue, Taken}
-use Rattle.fancy_code.specs.Context.{option_to}
+use Rattle.fancy_meaning.specs.Context.{option_to}
 
 -- at an instruction and a place whether the pair was marked
 abbrev pub Marks : Type 0

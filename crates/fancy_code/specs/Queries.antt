@@ -7,8 +7,8 @@ use Rattle.fancy_input.specs.declared.span.Span.{Span}
 use Rattle.fancy_code.specs.declared.code.Code.{Code}
 use Rattle.fancy_code.specs.CodeLength.{code_len}
 use Rattle.fancy_code.specs.declared.found.Found.{Found}
-use Rattle.fancy_code.specs.declared.options.SearchOptions.{SearchOptions}
-use Rattle.fancy_code.specs.Search.{Sought, Query, Answer}
+use Rattle.fancy_meaning.specs.declared.options.SearchOptions.{SearchOptions}
+use Rattle.fancy_meaning.specs.Search.{Sought, Query, Answer}
 
 -- the pattern, with what its code says of it, under these options
 abbrev pub sought_of : Pattern → Code → SearchOptions → Sought

@@ -2,9 +2,9 @@
 use Rattle.std.specs.Prelude.{◌≡◌, ℕ, zero, suc, Bool, List, [], ◌∷◌, ◌++◌, length, Option, Some, None, if◌then◌else◌, ◌==◌, nat_le, is_some, slice_index, slice_index_or, slice_set}
 use Rattle.fancy_tree.specs.Sets.{has}
 use Rattle.fancy_code.specs.Instructions.{Instruction, Match, Fail, Character, Member, RawByte, Assert, Split, Open, Close, Enter, Commit, Look, Deny, Test, Back, Recall, Keep, Continue, Taken}
-use Rattle.fancy_code.specs.Context.{Context, State, moved_to, with_capture, group_span, past_item, past_byte, units_back, holds, continues, option_to}
-use Rattle.fancy_code.specs.Backreference.{past_backreference}
-use Rattle.fancy_code.specs.Events.{Event, mark, return, outcome, any, ends_look}
+use Rattle.fancy_meaning.specs.Context.{Context, State, moved_to, with_capture, group_span, past_item, past_byte, units_back, holds, continues, option_to}
+use Rattle.fancy_meaning.specs.Backreference.{past_backreference}
+use Rattle.fancy_meaning.specs.Events.{Event, mark, return, outcome, any, ends_look}
 
 -- a mark, a return, or the fetch of an instruction
 pub data Sign : Type 0 where

@@ -2,8 +2,8 @@
 use Rattle.std.specs.Prelude.{◌≡◌, ℕ, ◌+◌, true, List, [], ◌∷◌, ◌++◌, length, Option, Some, None, slice_get, slice_index}
 use Rattle.fancy_tree.specs.declared.tree.Meaning.{Meaning}
 use Rattle.fancy_bytes.specs.Openings.{StandsBefore}
-use Rattle.fancy_code.specs.Context.{Context, State, moved_to}
-use Rattle.fancy_code.specs.Events.{Event, outcome}
+use Rattle.fancy_meaning.specs.Context.{Context, State, moved_to}
+use Rattle.fancy_meaning.specs.Events.{Event, outcome}
 use Rattle.fancy_code.specs.Instructions.{Instruction}
 use Rattle.fancy_code.specs.Run.{Raw, Foretells, erase, run}
 use Rattle.fancy_prefilter.specs.declared.text.Text.{Text}

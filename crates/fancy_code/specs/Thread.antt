@@ -1,10 +1,10 @@
 -- Where a thread through the code stands, and what the code gives from there.
 use Rattle.std.specs.Prelude.{ℕ, List, Option, None, map, Bool, [], ◌∷◌, length, Some, if◌then◌else◌}
 use Rattle.fancy_input.specs.declared.span.Span.{Span}
-use Rattle.fancy_code.specs.Context.{State, Context}
+use Rattle.fancy_meaning.specs.Context.{State, Context}
 use Rattle.fancy_code.specs.declared.slot.Slot.{Slot}
 use Rattle.fancy_code.specs.Instructions.{Instruction}
-use Rattle.fancy_code.specs.Events.{Event, mark, return, outcome}
+use Rattle.fancy_meaning.specs.Events.{Event, mark, return, outcome}
 use Rattle.fancy_code.specs.Run.{Raw, run, erase}
 
 -- where a thread through the code stands

@@ -1,7 +1,7 @@
 //! What an engine is asked at a position: the code of a pattern, a haystack, and how matches may stand there.
 
 use crate::code::Code;
-use crate::reading::SuppressedEnds;
+use fancy_meaning::reading::SuppressedEnds;
 
 /// What is searched: the code of a pattern in a haystack, where, and how matches may stand there. Places are byte
 /// offsets.

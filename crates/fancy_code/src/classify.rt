@@ -2,7 +2,7 @@
 
 ghost use Rattle.std.specs.Prelude.{◌≡◌, map};
 ghost use Rattle.fancy_tree.specs.Pattern.{pattern_of};
-ghost use Rattle.fancy_code.specs.Easy.{is_easy, goes_back, all_easy};
+ghost use Rattle.fancy_meaning.specs.Easy.{is_easy, goes_back, all_easy};
 
 use fancy_tree::tree::{RepeatKind, Tree};
 

@@ -10,7 +10,7 @@ ghost use Rattle.fancy_code.specs.Instructions.{with_set, is_known};
 ghost use Rattle.fancy_code.specs.Emitted.{Emits, Appends, emitted, len_of};
 ghost use Rattle.fancy_tree.specs.GroupNumbers.{Numbered};
 ghost use Rattle.fancy_code.specs.Compile.{CopiesEmitted, OptionalsEmitted, StarEmitted, TestEmitted, BackEmitted, BehindEmitted, IsCodeOf, IsCompiled, StaysEasy, are_easy, split_of, look_of};
-ghost use Rattle.fancy_code.specs.Easy.{kind_of, is_easy};
+ghost use Rattle.fancy_meaning.specs.Easy.{kind_of, is_easy};
 
 use crate::choosing::with_choices;
 use crate::classify::is_easy;

@@ -2,11 +2,11 @@
 
 ghost use Rattle.std.specs.Prelude.{◌≡◌, ◌≤◌, ℕ, IfSome, ◌==◌};
 ghost use Rattle.fancy_tree.specs.Sets.{has};
-ghost use Rattle.fancy_code.specs.Context.{past_item, past_byte};
+ghost use Rattle.fancy_meaning.specs.Context.{past_item, past_byte};
 ghost use Rattle.fancy_code.specs.Instructions.{edges_in};
-ghost use Rattle.fancy_code.specs.Reading.{search_context};
+ghost use Rattle.fancy_meaning.specs.Reading.{search_context};
 
-use crate::reading::{SuppressedEnds, read_at};
+use fancy_meaning::reading::{SuppressedEnds, read_at};
 use fancy_tree::char_set::CharSet;
 use fancy_tree::tree::Meaning;
 

@@ -1,9 +1,9 @@
 -- A search that answers with none has no position with an accepted outcome.
 use Rattle.std.proofs.Common.{◌≡◌, ◌↔◌, Option, Some, None, option_map, is_some, refl, sym, ap, ◌∙◌}
 use Rattle.fancy_input.specs.declared.span.Span.{Span}
-use Rattle.fancy_code.specs.Search.{Query, search, span_of}
-use Rattle.fancy_code.specs.Answers.{HasNone}
-use Rattle.fancy_code.proofs.SearchLemmas.{none-is_none}
+use Rattle.fancy_meaning.specs.Search.{Query, search, span_of}
+use Rattle.fancy_meaning.specs.Answers.{HasNone}
+use Rattle.fancy_meaning.proofs.SearchLemmas.{none-is_none}
 
 none_of : {A B : Type 0} (f : A → B) (m : Option A) → option_map f m ≡ None → m ≡ None
 none_of f None e = refl

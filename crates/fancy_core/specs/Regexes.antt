@@ -2,7 +2,7 @@
 use Rattle.std.specs.Prelude.{ℕ, Bool, true, List, Option, string_bytes}
 use Rattle.fancy_tree.specs.Pattern.{Pattern}
 use Rattle.fancy_input.specs.declared.input.Request.{Request}
-use Rattle.fancy_code.specs.Search.{Query}
+use Rattle.fancy_meaning.specs.Search.{Query}
 use Rattle.fancy_search.specs.declared.options.Options.{Options}
 use Rattle.fancy_search.specs.declared.program.Program.{Program}
 use Rattle.fancy_search.specs.Programs.{program_pattern, program_options, program_groups, program_length, program_is_easy, program_limit, program_step_limit, asked_of}

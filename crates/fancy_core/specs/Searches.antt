@@ -5,7 +5,7 @@ use Rattle.fancy_input.specs.declared.regex_input.RegexInput.{RegexInput}
 use Rattle.fancy_input.specs.Inputs.{haystack_in, request_in}
 use Rattle.fancy_input.specs.Requests.{whole}
 use Rattle.fancy_input.specs.declared.span.Span.{Span}
-use Rattle.fancy_code.specs.Search.{Query, search, attempt, span_of}
+use Rattle.fancy_meaning.specs.Search.{Query, search, attempt, span_of}
 use Rattle.fancy_search.specs.declared.options.Options.{Options}
 use Rattle.fancy_core.specs.declared.regex.Regex.{Regex}
 use Rattle.fancy_search.specs.Groups.{spans_of}

@@ -6,9 +6,9 @@ use Rattle.fancy_input.specs.declared.refusal.SearchRefusal.TheVariants.{Returns
 use Rattle.fancy_input.specs.declared.work.Work.{Work}
 use Rattle.fancy_input.specs.Work.{returns_of, AddsReturns, IsWithin}
 use Rattle.fancy_code.specs.declared.found.Found.{Found}
-use Rattle.fancy_code.specs.declared.options.SearchOptions.{SearchOptions}
+use Rattle.fancy_meaning.specs.declared.options.SearchOptions.{SearchOptions}
 use Rattle.fancy_code.specs.Queries.{answer_with}
-use Rattle.fancy_code.specs.Search.{Answer}
+use Rattle.fancy_meaning.specs.Search.{Answer}
 use Rattle.fancy_machine.specs.declared.search.Cache.{Cache}
 use Rattle.fancy_machine.specs.Asked.{Answers, HeedsLimit, groups_held}
 use Rattle.fancy_machine.specs.Parts.{HeedsLimits, KeepsCounts}

@@ -1,6 +1,6 @@
 -- Units before a place.
 use Rattle.std.proofs.Common.{◌≡◌, ℕ, zero, suc, ◌<◌, Some, None, refl, sym, ap, subst, arith}
-use Rattle.fancy_code.specs.Context.{Context, previous_in, units_back}
+use Rattle.fancy_meaning.specs.Context.{Context, previous_in, units_back}
 
 pub back_none : (x : Context) (n p : ℕ) → 0 < n → p ≡ 0 → units_back x n p ≡ None
 unfolding units_back

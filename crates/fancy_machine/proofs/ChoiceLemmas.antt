@@ -5,7 +5,7 @@ use Rattle.std.proofs.lemmas.Option.{same_Some}
 use Rattle.std.proofs.Math.Logic.{∥∥₁_elim}
 use Rattle.std.proofs.Props.{props}
 use mathlib.Core.HLevel.{is_prop→PathP}
-use Rattle.fancy_code.specs.Context.{Context, State}
+use Rattle.fancy_meaning.specs.Context.{Context, State}
 use Rattle.fancy_code.specs.Code.{instrs_of}
 use Rattle.fancy_code.specs.Instructions.{Instruction}
 use Rattle.fancy_code.specs.Run.{Raw}

@@ -3,9 +3,9 @@ use Rattle.std.proofs.Common.{◌≡◌, ℕ, Bool, List, refl}
 use Rattle.fancy_tree.specs.declared.tree.Meaning.{Meaning}
 use Rattle.fancy_tree.specs.declared.tree.Assertion.{Assertion}
 use Rattle.fancy_tree.specs.declared.tree.Assertion.TheVariants.{TextStart, TextEnd, LineStart, LineEnd, LineStartCrlf, LineEndCrlf, LastLine, LastLineCrlf, WordBoundary, NotWordBoundary, WordStart, WordEnd, WordStartHalf, WordEndHalf}
-use Rattle.fancy_code.specs.declared.reading.SuppressedEnds.{SuppressedEnds}
-use Rattle.fancy_code.specs.Context.{Context, past_item, past_byte, unit_at, holds}
-use Rattle.fancy_code.specs.Reading.{search_context}
+use Rattle.fancy_meaning.specs.declared.reading.SuppressedEnds.{SuppressedEnds}
+use Rattle.fancy_meaning.specs.Context.{Context, past_item, past_byte, unit_at, holds}
+use Rattle.fancy_meaning.specs.Reading.{search_context}
 use Rattle.fancy_machine.specs.Attempt.{reading}
 
 -- the ends that do not count in a context

@@ -7,13 +7,13 @@ use Rattle.fancy_tree.specs.declared.tree.Meaning.{Meaning}
 use Rattle.fancy_input.specs.Places.{is_boundary, is_continuation}
 use Rattle.fancy_code.specs.Code.{instrs_of}
 use Rattle.fancy_code.specs.Compile.{IsCodeOf, depth}
-use Rattle.fancy_code.specs.Context.{Context, State, moved_to}
-use Rattle.fancy_code.specs.Events.{any, returns_in}
+use Rattle.fancy_meaning.specs.Context.{Context, State, moved_to}
+use Rattle.fancy_meaning.specs.Events.{any, returns_in}
 use Rattle.fancy_code.specs.Instructions.{Instruction}
 use Rattle.fancy_code.specs.Run.{Note, choice_opened, before, join, act, instr_at, run}
-use Rattle.fancy_code.specs.Search.{Query, answer_at, answer_from, context_of, initial, is_match_boundary, returns_at}
-use Rattle.fancy_code.specs.Tried.{may_begin, tried}
-use Rattle.fancy_code.proofs.AttemptLemmas.{found_later}
+use Rattle.fancy_meaning.specs.Search.{Query, answer_at, answer_from, context_of, initial, is_match_boundary, returns_at}
+use Rattle.fancy_meaning.specs.Tried.{may_begin, tried}
+use Rattle.fancy_meaning.proofs.AttemptLemmas.{found_later}
 use Rattle.fancy_prices.specs.declared.front.Front.{Front}
 use Rattle.fancy_prices.specs.declared.splits.ToldSplit.{ToldSplit}
 use Rattle.fancy_prices.specs.Front.{IsFront}

@@ -1,7 +1,7 @@
 -- An attempt at a loop that is told: what it seeks once it read the items.
 use Rattle.std.proofs.Common.{◌≡◌, ℕ, suc, ◌+◌, ◌-◌, ◌<◌, ◌≤◌, Bool, true, false, List, [], Option, Some, None, refl, sym, ap, ap₂, ◌∙◌, subst, arith}
 use Rattle.std.specs.Prelude.{if◌then◌else◌}
-use Rattle.fancy_code.specs.Context.{Context, State}
+use Rattle.fancy_meaning.specs.Context.{Context, State}
 use Rattle.fancy_code.specs.Code.{instrs_of}
 use Rattle.fancy_code.specs.Instructions.{Instruction}
 use Rattle.fancy_code.specs.Run.{Raw}

@@ -2,7 +2,7 @@
 use Rattle.std.proofs.Common.{◌≡◌, ℕ, suc, ◌+◌, ◌-◌, ◌<◌, ◌≤◌, Bool, true, false, List, [], ◌∷◌, Option, Some, None, refl, sym, ap, ap₂, ◌∙◌, subst, inl, inr, arith, length, not, ◌&&◌}
 use Rattle.std.specs.Prelude.{if◌then◌else◌}
 use Rattle.fancy_code.specs.declared.step.Next.TheVariants.{On, Dead, Found}
-use Rattle.fancy_code.specs.Context.{State}
+use Rattle.fancy_meaning.specs.Context.{State}
 use Rattle.fancy_code.specs.Run.{Raw, Note, Stop, fetched, Go, erase}
 use Rattle.fancy_machine.specs.Frames.{Spot, Frame, Held, saved}
 use Rattle.fancy_code.specs.Thread.{size_of, IsKnown, events_of}

@@ -9,18 +9,18 @@ use Rattle.fancy_input.specs.declared.span.Span.{Span}
 use Rattle.fancy_tree.specs.Pattern.{Pattern}
 use Rattle.fancy_input.specs.declared.input.Request.{Request}
 use Rattle.fancy_code.specs.declared.code.Code.{Code}
-use Rattle.fancy_code.specs.declared.options.SearchOptions.{SearchOptions}
+use Rattle.fancy_meaning.specs.declared.options.SearchOptions.{SearchOptions}
 use Rattle.fancy_code.specs.Queries.{query_of}
 use Rattle.fancy_code.specs.Code.{instrs_of}
-use Rattle.fancy_code.specs.Context.{Context, State}
-use Rattle.fancy_code.specs.Events.{Event, mark, return, outcome, outcomes_in, marks_in, returns_in}
-use Rattle.fancy_code.specs.Trace.{trace, outcomes}
+use Rattle.fancy_meaning.specs.Context.{Context, State}
+use Rattle.fancy_meaning.specs.Events.{Event, mark, return, outcome, outcomes_in, marks_in, returns_in}
+use Rattle.fancy_meaning.specs.Trace.{trace, outcomes}
 use Rattle.fancy_code.specs.Run.{Raw, Given, run}
 use Rattle.fancy_code.specs.Compile.{IsCodeOf, depth}
-use Rattle.fancy_code.specs.Search.{Query, context_of, initial, trace_at, outcomes_at, is_match_boundary, accepted, first_one, further, longest_one, Answer, answer_at, attempt, before_accepted, gone_through, gone_at, gone_from, returns_at, choices_at}
+use Rattle.fancy_meaning.specs.Search.{Query, context_of, initial, trace_at, outcomes_at, is_match_boundary, accepted, first_one, further, longest_one, Answer, answer_at, attempt, before_accepted, gone_through, gone_at, gone_from, returns_at, choices_at}
 use Rattle.fancy_code.specs.Thread.{empty_slot, slot_span, slot_from}
-use Rattle.fancy_code.proofs.AttemptLemmas.{attempt_some, attempt_none}
-use Rattle.fancy_code.proofs.SearchLemmas.{is-accepted, is-no_answer}
+use Rattle.fancy_meaning.proofs.AttemptLemmas.{attempt_some, attempt_none}
+use Rattle.fancy_meaning.proofs.SearchLemmas.{is-accepted, is-no_answer}
 use Rattle.fancy_code.proofs.ThreadLemmas.{map-replicate}
 use Rattle.fancy_code.proofs.WholeCode.{Whole, program_gives}
 use Rattle.fancy_machine.specs.declared.attempt.Attempt.{Attempt}

@@ -6,8 +6,8 @@ use Rattle.fancy_code.specs.Instructions.{Instruction}
 use Rattle.fancy_code.specs.Instructions as i
 use Rattle.fancy_code.specs.declared.step.Next.{Next}
 use Rattle.fancy_code.specs.declared.step.Next.TheVariants.{On, Dead, Found}
-use Rattle.fancy_code.specs.Context.{Context, moved_to, units_back, option_to}
-use Rattle.fancy_code.specs.Backreference.{past_backreference}
+use Rattle.fancy_meaning.specs.Context.{Context, moved_to, units_back, option_to}
+use Rattle.fancy_meaning.specs.Backreference.{past_backreference}
 use Rattle.fancy_code.specs.Run.{Raw, Note, Stop, choice_opened, fetched, Go, before, instr_at, act, run, onward, rejoin}
 use Rattle.fancy_code.proofs.RunMore.{known_act}
 use Rattle.fancy_machine.specs.Frames.{Spot, Region, Frame, Atom, LookAround, Denial, Condition, Saved, Within, saved}

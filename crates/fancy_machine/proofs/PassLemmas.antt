@@ -4,10 +4,10 @@ use Rattle.std.specs.Prelude.{slice_get}
 use Rattle.std.proofs.lemmas.Option.{same_Some, slice_get-get_or}
 use Rattle.std.proofs.lemmas.Bool.{cases_eq}
 use Rattle.fancy_bytes.specs.Sets.{member}
-use Rattle.fancy_code.specs.Context.{Context, State}
+use Rattle.fancy_meaning.specs.Context.{Context, State}
 use Rattle.fancy_code.specs.Instructions.{Instruction}
 use Rattle.fancy_code.specs.Instructions as i
-use Rattle.fancy_code.specs.Events.{any}
+use Rattle.fancy_meaning.specs.Events.{any}
 use Rattle.fancy_code.specs.Run.{Raw, Note, Stop, choice_opened, returned, fetched, Go, before, join, erase, instr_at, run}
 use Rattle.fancy_code.specs.Thread.{size_of}
 use Rattle.fancy_code.proofs.RunMore.{run_more}

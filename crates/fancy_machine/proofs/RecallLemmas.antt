@@ -11,11 +11,11 @@ use Rattle.unicode.proofs.CaseFoldingLemmas.{simple_fold-ascii}
 use Rattle.fancy_tree.specs.declared.tree.Meaning.{Meaning}
 use Rattle.fancy_tree.specs.declared.tree.Meaning.TheVariants.{Unicode}
 use Rattle.fancy_input.specs.Places.{char_at, has_bytes_at}
-use Rattle.fancy_code.specs.Context.{Context, State, group_span, unit_at, past_item, past_byte, one_character, option_to}
+use Rattle.fancy_meaning.specs.Context.{Context, State, group_span, unit_at, past_item, past_byte, one_character, option_to}
 use Rattle.fancy_input.specs.declared.span.Span.{Span}
-use Rattle.fancy_code.specs.Backreference.{captured_text, past_text, past_folded, past_characters, past_span, past_backreference, shares_folding}
+use Rattle.fancy_meaning.specs.Backreference.{captured_text, past_text, past_folded, past_characters, past_span, past_backreference, shares_folding}
 use Rattle.fancy_input.proofs.CharacterLemmas.{char_at-fits}
-use Rattle.fancy_code.proofs.PieceLemmas.{past_nothing, past_first}
+use Rattle.fancy_meaning.proofs.PieceLemmas.{past_nothing, past_first}
 use Rattle.fancy_machine.specs.Attempt.{reading}
 
 pub recall_seen : (x : Context) (folded : Bool) (number : ℕ) (s : State) → past_backreference x folded number s ≡ past_span x folded (group_span s number) s.place

@@ -5,15 +5,15 @@ use Rattle.std.proofs.Props.{props}
 use Rattle.fancy_input.specs.declared.input.Request.{Request}
 use Rattle.fancy_input.specs.Requests.{effective_start}
 use Rattle.fancy_code.specs.declared.code.Code.{Code}
-use Rattle.fancy_code.specs.declared.options.SearchOptions.{SearchOptions}
+use Rattle.fancy_meaning.specs.declared.options.SearchOptions.{SearchOptions}
 use Rattle.fancy_code.specs.Compile.{IsCodeOf}
-use Rattle.fancy_code.specs.Context.{Context}
-use Rattle.fancy_code.specs.Events.{marks_in, returns_in}
+use Rattle.fancy_meaning.specs.Context.{Context}
+use Rattle.fancy_meaning.specs.Events.{marks_in, returns_in}
 use Rattle.fancy_code.specs.Queries.{query_of}
-use Rattle.fancy_code.specs.Search.{Query, answer_from, gone_from}
+use Rattle.fancy_meaning.specs.Search.{Query, answer_from, gone_from}
 use Rattle.fancy_prefilter.specs.Seen.{IsNextCandidate}
-use Rattle.fancy_code.specs.Tried.{may_begin, tried, NoneTried}
-use Rattle.fancy_code.proofs.SkipLemmas.{skip_none}
+use Rattle.fancy_meaning.specs.Tried.{may_begin, tried, NoneTried}
+use Rattle.fancy_meaning.proofs.SkipLemmas.{skip_none}
 use Rattle.fancy_code.proofs.TriedLemmas.{passed_over}
 use Rattle.fancy_prices.specs.declared.price.Price.{Price}
 use Rattle.fancy_prices.specs.Entries.{AreEntries, EntryTest, IsNextEntry, IsPassed, IsToldAt, IsToldOf}

@@ -6,7 +6,7 @@ use Rattle.fancy_input.specs.declared.refusal.SearchRefusal.TheVariants.{Returns
 use Rattle.fancy_input.specs.declared.work.Work.{Work}
 use Rattle.fancy_input.specs.Work.{returns_of}
 use Rattle.fancy_code.specs.declared.step.Next.{Next}
-use Rattle.fancy_code.specs.Context.{State}
+use Rattle.fancy_meaning.specs.Context.{State}
 use Rattle.fancy_machine.specs.declared.attempt.Attempt.{Attempt}
 use Rattle.fancy_machine.specs.Frames.{Held}
 use Rattle.fancy_machine.specs.Attempt.{TakesAtLeast, IsOverfull}

@@ -7,10 +7,10 @@ use Rattle.fancy_input.specs.declared.span.Span.{Span}
 use Rattle.fancy_input.specs.declared.work.Work.{Work}
 use Rattle.fancy_input.specs.Work.{returns_of}
 use Rattle.fancy_code.specs.declared.found.Found.{Found}
-use Rattle.fancy_code.specs.declared.options.SearchOptions.{SearchOptions}
+use Rattle.fancy_meaning.specs.declared.options.SearchOptions.{SearchOptions}
 use Rattle.fancy_code.specs.Compile.{IsCodeOf}
 use Rattle.fancy_code.specs.Queries.{query_of, answer_with}
-use Rattle.fancy_code.specs.Search.{Query, Answer, context_of}
+use Rattle.fancy_meaning.specs.Search.{Query, Answer, context_of}
 use Rattle.fancy_prices.specs.Told.{ArePrices}
 use Rattle.fancy_machine.specs.declared.asked.Asked.{Asked}
 use Rattle.fancy_machine.specs.declared.attempt.Attempt.{Attempt}

@@ -4,9 +4,9 @@ use Rattle.fancy_tree.specs.declared.tree.Meaning.{Meaning}
 use Rattle.fancy_code.specs.declared.code.Instr.{Instr}
 use Rattle.fancy_code.specs.declared.step.Next.{Next}
 use Rattle.fancy_code.specs.Code.{instrs_of, instr_in}
-use Rattle.fancy_code.specs.Context.{Context, State}
-use Rattle.fancy_code.specs.Events.{Event}
-use Rattle.fancy_code.specs.Search.{is_match_boundary}
+use Rattle.fancy_meaning.specs.Context.{Context, State}
+use Rattle.fancy_meaning.specs.Events.{Event}
+use Rattle.fancy_meaning.specs.Search.{is_match_boundary}
 use Rattle.fancy_code.specs.Run.{Raw, Go, run, instr_at}
 use Rattle.fancy_prices.specs.Prices.{Dies}
 use Rattle.fancy_prices.specs.Splits.{byte_alone}

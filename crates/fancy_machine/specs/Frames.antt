@@ -1,6 +1,6 @@
 -- What the machine holds, as plain data.
 use Rattle.std.specs.Prelude.{ℕ, ◌+◌, Bool, List, [], ◌∷◌}
-use Rattle.fancy_code.specs.Context.{State}
+use Rattle.fancy_meaning.specs.Context.{State}
 
 -- A way through the code: its next instruction, where consumed text ends at the latest, its state, and where each group began.
 pub record Spot : Type 0 where

@@ -1,8 +1,8 @@
 -- Positions that a search passes over together: attempts there come into a run of items which was read before.
 use Rattle.std.specs.Prelude.{◌≡◌, ◌+◌, ◌-◌, ◌≤◌, ◌^◌, ℕ, zero, suc, Bool, true, List, None}
-use Rattle.fancy_code.specs.Events.{marks_in, returns_in}
-use Rattle.fancy_code.specs.Search.{Query, answer_from, gone_from}
-use Rattle.fancy_code.specs.Tried.{tried}
+use Rattle.fancy_meaning.specs.Events.{marks_in, returns_in}
+use Rattle.fancy_meaning.specs.Search.{Query, answer_from, gone_from}
+use Rattle.fancy_meaning.specs.Tried.{tried}
 use Rattle.fancy_prices.specs.declared.front.Front.{Front}
 use Rattle.fancy_prices.specs.declared.splits.ToldSplit.{ToldSplit}
 use Rattle.fancy_prices.specs.Splits.{IsNoted}

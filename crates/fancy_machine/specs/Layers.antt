@@ -1,7 +1,7 @@
 -- The layers of a search as frames.
 use Rattle.std.specs.Prelude.{◌≡◌, ℕ, zero, suc, ◌+◌, ◌-◌, ◌≤◌, Bool, true, false, if◌then◌else◌, nat_le, nat_lt, ◌==◌, Option, Some, None, List, [], ◌∷◌, ◌++◌, map, length, drop, replicate}
 use Rattle.fancy_code.specs.declared.slot.Slot.{Slot}
-use Rattle.fancy_code.specs.Context.{State, moved_to}
+use Rattle.fancy_meaning.specs.Context.{State, moved_to}
 use Rattle.fancy_code.specs.Thread.{slot_span, slot_from}
 use Rattle.fancy_machine.specs.declared.layer.Layer.{Layer}
 use Rattle.fancy_machine.specs.declared.layer.Kind.{Kind}

@@ -7,8 +7,8 @@ use Rattle.fancy_input.specs.declared.refusal.SearchRefusal.TheVariants.{Memory,
 use Rattle.fancy_code.specs.declared.slot.Slot.{Slot}
 use Rattle.fancy_input.specs.declared.work.Work.{Work}
 use Rattle.fancy_input.specs.Work.{returns_of, went_back}
-use Rattle.fancy_code.specs.Context.{State, moved_to, with_capture}
-use Rattle.fancy_code.specs.Events.{Event, mark, return, outcome, any, ends_look}
+use Rattle.fancy_meaning.specs.Context.{State, moved_to, with_capture}
+use Rattle.fancy_meaning.specs.Events.{Event, mark, return, outcome, any, ends_look}
 use Rattle.fancy_code.specs.Run.{Raw, Note, Stop, choice_opened, returned, fetched, Go, before, join, fenced, resume, halt, erase}
 use Rattle.fancy_machine.specs.declared.layer.Kind.{Kind}
 use Rattle.fancy_machine.specs.declared.layer.Kind.TheVariants as k

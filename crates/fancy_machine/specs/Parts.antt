@@ -6,7 +6,7 @@ use Rattle.fancy_input.specs.declared.work.Work.{Work}
 use Rattle.fancy_input.specs.Work.{steps_of, returns_of, units_of, stepped_within, IsWithin, IsSpent, HasWorkLeft, AddsUnits}
 use Rattle.fancy_code.specs.declared.code.Instr.{Instr}
 use Rattle.fancy_code.specs.declared.step.Next.{Next}
-use Rattle.fancy_code.specs.Context.{State}
+use Rattle.fancy_meaning.specs.Context.{State}
 use Rattle.fancy_prices.specs.declared.splits.ToldSplit.{ToldSplit}
 use Rattle.fancy_prices.specs.Splits.{IsNoted}
 use Rattle.fancy_machine.specs.declared.attempt.Attempt.{Attempt}

@@ -4,7 +4,7 @@ use Rattle.fancy_input.specs.declared.span.Span.{Span}
 use Rattle.fancy_input.specs.declared.work.Work.{Work}
 use Rattle.fancy_input.specs.Work.{steps_of, returns_of, units_of}
 use Rattle.fancy_code.specs.Code.{instrs_of}
-use Rattle.fancy_code.specs.Context.{State, group_span}
+use Rattle.fancy_meaning.specs.Context.{State, group_span}
 use Rattle.fancy_code.specs.Instructions.{Instruction, Match, Fail, Character, Member, RawByte, Assert, Split, Open, Close, Enter, Commit, Look, Deny, Test, Back, Recall, Keep, Continue, Taken}
 use Rattle.fancy_code.specs.Run.{instr_at}
 use Rattle.fancy_machine.specs.Frames.{Spot}

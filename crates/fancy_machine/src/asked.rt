@@ -1,8 +1,8 @@
 //! What a search is asked.
 
 use fancy_code::code::Code;
-use fancy_code::options::SearchOptions;
 use fancy_input::input::Request;
+use fancy_meaning::options::SearchOptions;
 use fancy_prices::prices::Prices;
 
 /// What a search is asked, of whatever haystack.

@@ -2,7 +2,7 @@
 
 ghost use Rattle.std.specs.Prelude.{◌≡◌, ◌≤◌, ℕ, List, Option, IfOk, IfSome};
 ghost use Rattle.fancy_code.specs.Code.{instrs_of};
-ghost use Rattle.fancy_code.specs.Context.{State};
+ghost use Rattle.fancy_meaning.specs.Context.{State};
 ghost use Rattle.fancy_input.specs.Work.{returns_of};
 ghost use Rattle.fancy_prices.specs.Splits.{IsToldAtom};
 ghost use Rattle.fancy_machine.specs.Atoms.{ComesTo, ReadsAll};

@@ -4,11 +4,11 @@ ghost use Rattle.std.specs.Prelude.{◌≡◌, ◌≢◌, ◌+◌, ◌-◌, ◌<
 ghost use Rattle.fancy_tree.specs.Pattern.{Pattern};
 ghost use Rattle.fancy_input.specs.LastLines.{KnowsLastLines};
 ghost use Rattle.fancy_code.specs.Queries.{query_of};
-ghost use Rattle.fancy_code.specs.Search.{continues_from};
+ghost use Rattle.fancy_meaning.specs.Search.{continues_from};
 ghost use Rattle.fancy_input.specs.Work.{returns_of, AddsReturns};
 ghost use Rattle.fancy_code.specs.Thread.{IsKnown};
 ghost use Rattle.fancy_prices.specs.Splits.{AreSplits, IsPart};
-ghost use Rattle.fancy_code.specs.Context.{State};
+ghost use Rattle.fancy_meaning.specs.Context.{State};
 ghost use Rattle.fancy_prices.specs.Once.{splits_once};
 
 use crate::atoms::pass_atom;
@@ -19,13 +19,13 @@ use crate::seen::Seen;
 use crate::step::step;
 use crate::trail::Trail;
 use fancy_code::code::Code;
-use fancy_code::options::{SearchOptions, is_match_boundary};
-use fancy_code::reading::SuppressedEnds;
 use fancy_code::step::Next;
 use fancy_input::input::Request;
 use fancy_input::last_lines::LastLines;
 use fancy_input::refusal::SearchRefusal;
 use fancy_input::work::Work;
+use fancy_meaning::options::{SearchOptions, is_match_boundary};
+use fancy_meaning::reading::SuppressedEnds;
 use fancy_prices::splits::{Splits, ToldPart};
 
 /// The attempts of one search: the code that they follow, the haystack, and what they accept there.

@@ -18,7 +18,7 @@ pub struct Best {
 
 impl Model for Best {
     ghost use Rattle.std.specs.Prelude.{Option, map};
-    ghost use Rattle.fancy_code.specs.Context.{State};
+    ghost use Rattle.fancy_meaning.specs.Context.{State};
     ghost use Rattle.fancy_machine.specs.Layers.{outcome_of};
     ghost use Rattle.fancy_machine.specs.Log.{cell_slot};
 

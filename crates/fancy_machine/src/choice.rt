@@ -2,7 +2,7 @@
 
 ghost use Rattle.std.specs.Prelude.{◌≤◌, Option, length};
 ghost use Rattle.fancy_code.specs.Code.{instrs_of};
-ghost use Rattle.fancy_code.specs.Context.{State};
+ghost use Rattle.fancy_meaning.specs.Context.{State};
 ghost use Rattle.fancy_input.specs.Work.{returns_of};
 ghost use Rattle.fancy_prices.specs.Splits.{IsToldChoice};
 ghost use Rattle.fancy_machine.specs.Choices.{IsTaken};

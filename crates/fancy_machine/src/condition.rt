@@ -2,7 +2,7 @@
 
 ghost use Rattle.std.specs.Prelude.{◌≡◌};
 ghost use Rattle.fancy_input.specs.LastLines.{KnowsLastLines};
-ghost use Rattle.fancy_code.specs.Context.{continues};
+ghost use Rattle.fancy_meaning.specs.Context.{continues};
 ghost use Rattle.fancy_machine.specs.Attempt.{attempt_context};
 ghost use Rattle.fancy_machine.specs.Machine.{WentIf};
 ghost use Rattle.fancy_machine.specs.Moves.{ChangesWay};
@@ -11,9 +11,9 @@ ghost use Rattle.fancy_machine.specs.Parts.{Follows};
 use crate::attempt::Attempt;
 use crate::trail::Trail;
 use fancy_code::code::Instr;
-use fancy_code::reading::holds_at;
 use fancy_code::step::Next;
 use fancy_input::last_lines::LastLines;
+use fancy_meaning::reading::holds_at;
 use fancy_tree::tree::Assertion;
 
 /// Goes on at another instruction, if a test holds.
@@ -52,7 +52,7 @@ pub(crate) fn assert_at(
 }
 
 /// Whether `\G` holds at a place.
-#[tactic(auto, unfolding(fancy_code::specs::Context::continues))]
+#[tactic(auto, unfolding(fancy_meaning::specs::Context::continues))]
 fn is_continued(attempt: &Attempt, place: usize) -> bool
     ensures { result ≡ continues (attempt_context attempt.now) place }
 {

@@ -2,7 +2,7 @@
 
 ghost use Rattle.fancy_tree.specs.Sets.{has};
 ghost use Rattle.fancy_code.specs.Instructions.{edges_in};
-ghost use Rattle.fancy_code.specs.Context.{past_item};
+ghost use Rattle.fancy_meaning.specs.Context.{past_item};
 ghost use Rattle.fancy_machine.specs.Attempt.{attempt_context};
 ghost use Rattle.fancy_machine.specs.Machine.{MovedTo, RecalledTo};
 ghost use Rattle.fancy_machine.specs.Moves.{ChangesWay};

@@ -2,7 +2,7 @@
 //! Where what follows the loop closes a region, as in a possessive repeat, no branch is saved.
 
 ghost use Rattle.std.specs.Prelude.{◌≡◌, ◌+◌, ◌-◌, ◌^◌, ◌<◌, ◌≤◌, ◌⊎◌, ℕ, List, if◌then◌else◌, true, false, length, IfOk, IfSome, Option};
-ghost use Rattle.fancy_code.specs.Context.{State};
+ghost use Rattle.fancy_meaning.specs.Context.{State};
 ghost use Rattle.fancy_input.specs.Work.{returns_of};
 ghost use Rattle.fancy_prices.specs.declared.splits.ToldSplit.{ToldSplit};
 ghost use Rattle.fancy_prices.specs.declared.splits.Splits.{Splits};

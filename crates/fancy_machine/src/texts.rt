@@ -1,8 +1,8 @@
 //! The text of a group once more.
 
 ghost use Rattle.std.specs.Prelude.{◌≡◌, take, drop, length};
-ghost use Rattle.fancy_code.specs.Backreference.{past_text, past_letters, past_characters, past_span, shares_folding};
-ghost use Rattle.fancy_code.specs.Context.{Context, past_item};
+ghost use Rattle.fancy_meaning.specs.Backreference.{past_text, past_letters, past_characters, past_span, shares_folding};
+ghost use Rattle.fancy_meaning.specs.Context.{Context, past_item};
 ghost use Rattle.fancy_machine.specs.Attempt.{reading};
 ghost use Rattle.fancy_machine.specs.Units.{text_len};
 ghost use Rattle.fancy_tree.specs.declared.tree.Meaning.{Meaning as MeaningIs};

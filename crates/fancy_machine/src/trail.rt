@@ -1,7 +1,7 @@
 //! The way that the machine follows, with the branches that it saved and the regions that are open.
 
 ghost use Rattle.std.specs.Prelude.{◌≡◌, ◌^◌, ◌≢◌, ◌+◌, ◌<◌, ◌≤◌, ◌↔◌, List, [], ◌∷◌, Err, Some, map, length, replicate, IsTrue, OnOk, slice_index, true, is_some};
-ghost use Rattle.fancy_code.specs.Context.{group_span};
+ghost use Rattle.fancy_meaning.specs.Context.{group_span};
 ghost use Rattle.fancy_code.specs.Thread.{empty_slot, slot_span};
 ghost use Rattle.fancy_input.specs.Work.{returns_of};
 ghost use Rattle.fancy_machine.specs.Log.{cell_slot, writes_allowed};

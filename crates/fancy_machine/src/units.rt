@@ -1,7 +1,7 @@
 //! Units before a place.
 
 ghost use Rattle.std.specs.Prelude.{◌≡◌, ◌<◌, ◌-◌, Option};
-ghost use Rattle.fancy_code.specs.Context.{Context, previous_in, units_back};
+ghost use Rattle.fancy_meaning.specs.Context.{Context, previous_in, units_back};
 ghost use Rattle.fancy_machine.specs.Attempt.{reading};
 
 use fancy_input::places::prev_boundary;

@@ -9,8 +9,8 @@ use Rattle.fancy_tree.specs.declared.tree.Meaning.{Meaning}
 use Rattle.fancy_tree.specs.declared.tree.Meaning.TheVariants.{Unicode, Bytes, AsciiText}
 use Rattle.fancy_input.specs.Lines.{byte_before}
 use Rattle.fancy_bytes.specs.Items.{encoding}
-use Rattle.fancy_code.specs.Context.{Context, State, moved_to, option_to, past_item, units_back}
-use Rattle.fancy_code.specs.Events.{ends_look}
+use Rattle.fancy_meaning.specs.Context.{Context, State, moved_to, option_to, past_item, units_back}
+use Rattle.fancy_meaning.specs.Events.{ends_look}
 use Rattle.fancy_tree.specs.Sets.{has}
 use Rattle.fancy_code.specs.Instructions.{Instruction, Match, Back, Character, Look, Member, Split}
 use Rattle.fancy_code.specs.Run.{Raw, Go, join, onward, resume, instr_at, act, run}

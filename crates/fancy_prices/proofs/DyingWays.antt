@@ -3,8 +3,8 @@ use Rattle.std.proofs.Common.{◌≡◌, ℕ, zero, suc, ◌+◌, ◌≤◌, ◌
 use Rattle.fancy_tree.specs.declared.tree.Meaning.{Meaning}
 use Rattle.fancy_tree.specs.declared.tree.Assertion.{Assertion}
 use Rattle.fancy_tree.specs.Sets.{has}
-use Rattle.fancy_code.specs.Context.{Context, State, holds, moved_to, option_to, past_byte, past_item, units_back, with_capture}
-use Rattle.fancy_code.specs.Events.{any, ends_look}
+use Rattle.fancy_meaning.specs.Context.{Context, State, holds, moved_to, option_to, past_byte, past_item, units_back, with_capture}
+use Rattle.fancy_meaning.specs.Events.{any, ends_look}
 use Rattle.fancy_code.specs.Instructions.{Instruction, Fail, Match, Commit, Assert, Back, Character, Close, Deny, Enter, Keep, Look, Member, Open, RawByte, Split}
 use Rattle.fancy_code.specs.Run.{Raw, Note, Stop, choice_opened, returned, fetched, Go, before, join, guard, fenced, halt, onward, resume, instr_at, act, run}
 use Rattle.fancy_code.proofs.RunMore.{past_end}

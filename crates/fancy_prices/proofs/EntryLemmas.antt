@@ -13,7 +13,7 @@ use Rattle.fancy_prefilter.specs.Seeks.{IsNextSeen, NoneSeenBefore}
 use Rattle.fancy_code.specs.declared.code.Code.{Code}
 use Rattle.fancy_code.specs.Code.{instrs_of}
 use Rattle.fancy_code.specs.Compile.{IsCodeOf, depth}
-use Rattle.fancy_code.specs.Search.{Query, context_of, initial}
+use Rattle.fancy_meaning.specs.Search.{Query, context_of, initial}
 use Rattle.fancy_prices.specs.declared.facts.Before.{Before}
 use Rattle.fancy_prices.specs.declared.facts.Before.TheVariants.{Nothing, LineFeed, CarriageReturn, Letter, Digit, Blank, Other, Wide}
 use Rattle.fancy_prices.specs.declared.entries.Prices.{Prices}

@@ -14,9 +14,9 @@ use Rattle.fancy_tree.specs.Named.{in_named_set}
 use Rattle.fancy_tree.specs.Sets.{differ}
 use Rattle.fancy_input.specs.Lines.{byte_before, is_line_feed, is_carriage_return}
 use Rattle.fancy_input.specs.Places.{char_before}
-use Rattle.fancy_code.specs.Context.{Context, holds, is_word, code_before, word_before, word_after}
-use Rattle.fancy_code.proofs.ReadingLemmas.{low_after, low_before}
-use Rattle.fancy_code.proofs.WordCharacters.{ascii_word, unicode_word}
+use Rattle.fancy_meaning.specs.Context.{Context, holds, is_word, code_before, word_before, word_after}
+use Rattle.fancy_meaning.proofs.ReadingLemmas.{low_after, low_before}
+use Rattle.fancy_meaning.proofs.WordCharacters.{ascii_word, unicode_word}
 use Rattle.fancy_prices.specs.declared.facts.Facts.{Facts}
 use Rattle.fancy_prices.specs.declared.facts.Before.{Before}
 use Rattle.fancy_prices.specs.declared.facts.Before.TheVariants.{LineFeed, CarriageReturn, Letter, Digit, Blank, Other, Wide}

@@ -11,8 +11,8 @@ use Rattle.fancy_input.specs.Lines.{byte_before}
 use Rattle.fancy_input.specs.Places.{char_at, is_continuation}
 use Rattle.fancy_input.proofs.CharacterLemmas.{char_at-ascii}
 use Rattle.fancy_input.proofs.PlaceLemmas.{prev_place_stop}
-use Rattle.fancy_code.specs.Context.{Context, State, Unit_at, moved_to, one_character, option_to, past_item, previous_in, unit_at, unit_in, units_back}
-use Rattle.fancy_code.specs.Events.{any, ends_look}
+use Rattle.fancy_meaning.specs.Context.{Context, State, Unit_at, moved_to, one_character, option_to, past_item, previous_in, unit_at, unit_in, units_back}
+use Rattle.fancy_meaning.specs.Events.{any, ends_look}
 use Rattle.fancy_code.specs.Instructions.{Instruction, Back, Deny, Match, Member}
 use Rattle.fancy_code.specs.Run.{Raw, Note, Stop, choice_opened, returned, fetched, before, guard, fenced, halt, onward, instr_at, act, run}
 use Rattle.fancy_prefilter.proofs.ItemBytesLemmas.{low_text}

@@ -3,8 +3,8 @@ use Rattle.std.proofs.Common.{◌≡◌, ℕ, zero, suc, ◌+◌, ◌<◌, true,
 use Rattle.std.proofs.lemmas.Option.{same_Some}
 use Rattle.fancy_tree.specs.declared.tree.Meaning.{Meaning}
 use Rattle.fancy_bytes.specs.Sets.{ByteFlags, member}
-use Rattle.fancy_code.specs.Context.{Context, State, moved_to}
-use Rattle.fancy_code.specs.Events.{any}
+use Rattle.fancy_meaning.specs.Context.{Context, State, moved_to}
+use Rattle.fancy_meaning.specs.Events.{any}
 use Rattle.fancy_code.specs.Instructions.{Instruction, Open, Split}
 use Rattle.fancy_code.specs.Run.{Note, choice_opened, fetched, before, join, act, instr_at, run}
 use Rattle.fancy_prices.specs.declared.splits.ToldSplit.{ToldSplit}

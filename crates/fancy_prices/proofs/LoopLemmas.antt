@@ -7,7 +7,7 @@ use Rattle.fancy_tree.specs.Sets.{has}
 use Rattle.fancy_bytes.specs.Items.{encoding}
 use Rattle.fancy_bytes.specs.Sets.{ByteFlags}
 use Rattle.fancy_tree.specs.declared.tree.Meaning.{Meaning}
-use Rattle.fancy_code.specs.Context.{Context, State, moved_to, option_to, past_byte, past_item}
+use Rattle.fancy_meaning.specs.Context.{Context, State, moved_to, option_to, past_byte, past_item}
 use Rattle.fancy_code.specs.Instructions.{Instruction, Character, Close, Commit, Match, Member, Open, RawByte}
 use Rattle.fancy_code.specs.Run.{Note, fetched, Go, act, before, instr_at, onward, run}
 use Rattle.fancy_code.proofs.ForetoldLemmas.{item_at}

@@ -5,11 +5,11 @@ use Rattle.fancy_input.specs.Places.{is_boundary, is_continuation}
 use Rattle.fancy_code.specs.declared.code.Code.{Code}
 use Rattle.fancy_code.specs.Code.{instrs_of}
 use Rattle.fancy_code.specs.Compile.{IsCodeOf, depth}
-use Rattle.fancy_code.specs.Context.{State}
-use Rattle.fancy_code.specs.Events.{Event, any, mark, return, outcome, marks_in, returns_in, outcomes_in}
+use Rattle.fancy_meaning.specs.Context.{State}
+use Rattle.fancy_meaning.specs.Events.{Event, any, mark, return, outcome, marks_in, returns_in, outcomes_in}
 use Rattle.fancy_code.specs.Run.{Raw, Note, Stop, choice_opened, returned, fetched, erase, run}
-use Rattle.fancy_code.specs.Search.{Query, accepted, answer_at, before_accepted, context_of, first_one, gone_at, gone_through, initial, is_match_boundary, longest_one, trace_at}
-use Rattle.fancy_code.specs.Trace.{outcomes}
+use Rattle.fancy_meaning.specs.Search.{Query, accepted, answer_at, before_accepted, context_of, first_one, gone_at, gone_through, initial, is_match_boundary, longest_one, trace_at}
+use Rattle.fancy_meaning.specs.Trace.{outcomes}
 use Rattle.fancy_code.proofs.WholeCode.{program_gives}
 use Rattle.fancy_prices.specs.declared.facts.Facts.{Facts}
 use Rattle.fancy_prices.specs.declared.price.Price.{Price}

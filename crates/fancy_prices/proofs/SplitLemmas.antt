@@ -7,7 +7,7 @@ use Rattle.std.proofs.lemmas.Option.{slice_get_within}
 use Rattle.fancy_tree.specs.declared.tree.Meaning.{Meaning}
 use Rattle.fancy_tree.specs.Sets.{has}
 use Rattle.fancy_bytes.specs.Sets.{ByteFlags, member}
-use Rattle.fancy_code.specs.Context.{Context, State, Unit_at, moved_to, option_to, past_byte, past_item, unit_at, unit_in}
+use Rattle.fancy_meaning.specs.Context.{Context, State, Unit_at, moved_to, option_to, past_byte, past_item, unit_at, unit_in}
 use Rattle.fancy_code.specs.Instructions.{Instruction, Character, Member, RawByte}
 use Rattle.fancy_code.specs.Run.{Note, fetched, Go, before, onward, act, instr_at, run}
 use Rattle.fancy_code.proofs.BranchingLemmas.{each_more}

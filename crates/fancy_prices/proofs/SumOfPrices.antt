@@ -1,9 +1,9 @@
 -- A search that passes over places that cost nothing.
 use Rattle.std.proofs.Common.{◌≡◌, ℕ, zero, suc, ◌+◌, ◌<◌, ◌≤◌, Bool, true, false, ◌&&◌, List, [], ◌++◌, Option, None, if◌then◌else◌, refl, sym, ap, ap₂, ◌∙◌, subst, arith, le_refl}
 use Rattle.std.specs.Prelude.{is_some}
-use Rattle.fancy_code.specs.Context.{State}
-use Rattle.fancy_code.specs.Events.{Event, marks_in, returns_in}
-use Rattle.fancy_code.specs.Search.{Query, answer_at, gone_from, gone_through, is_match_boundary}
+use Rattle.fancy_meaning.specs.Context.{State}
+use Rattle.fancy_meaning.specs.Events.{Event, marks_in, returns_in}
+use Rattle.fancy_meaning.specs.Search.{Query, answer_at, gone_from, gone_through, is_match_boundary}
 use Rattle.fancy_prices.specs.declared.price.Price.{Price}
 use Rattle.fancy_prices.specs.Prices.{counted, CostsAt, CostsNothingAt, IsNothing}
 use Rattle.fancy_prices.proofs.PriceLemmas.{marks-append, returns-append}

@@ -7,7 +7,7 @@ use Rattle.fancy_bytes.specs.Sets.{member}
 use Rattle.fancy_code.specs.declared.code.Code.{Code}
 use Rattle.fancy_code.specs.Code.{instrs_of}
 use Rattle.fancy_code.specs.Compile.{IsCodeOf}
-use Rattle.fancy_code.specs.Search.{Query}
+use Rattle.fancy_meaning.specs.Search.{Query}
 use Rattle.fancy_prices.specs.declared.entries.Entries.{Entries}
 use Rattle.fancy_prices.specs.declared.entries.Prices.{Prices}
 use Rattle.fancy_prices.specs.declared.entries.Told.{Told}

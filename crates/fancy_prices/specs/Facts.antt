@@ -6,7 +6,7 @@ use Rattle.unicode.specs.Perl.{is_word_byte}
 use Rattle.fancy_tree.specs.declared.tree.Assertion.{Assertion}
 use Rattle.fancy_tree.specs.declared.tree.Meaning.{Meaning}
 use Rattle.fancy_input.specs.Lines.{byte_before, is_line_feed, is_carriage_return}
-use Rattle.fancy_code.specs.Context.{Context, holds, word_before, word_after}
+use Rattle.fancy_meaning.specs.Context.{Context, holds, word_before, word_after}
 use Rattle.fancy_prices.specs.declared.facts.Before.{Before}
 use Rattle.fancy_prices.specs.declared.facts.Before.TheVariants.{Nothing, LineFeed, CarriageReturn, Letter, Digit, Blank, Other, Wide}
 use Rattle.fancy_prices.specs.declared.facts.Ending.{Ending}

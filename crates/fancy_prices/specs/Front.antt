@@ -5,7 +5,7 @@ use Rattle.fancy_input.specs.Places.{is_continuation}
 use Rattle.fancy_bytes.specs.Sets.{ByteFlags, member}
 use Rattle.fancy_code.specs.declared.code.Code.{Code}
 use Rattle.fancy_code.specs.Code.{instrs_of}
-use Rattle.fancy_code.specs.Context.{Context, State, moved_to}
+use Rattle.fancy_meaning.specs.Context.{Context, State, moved_to}
 use Rattle.fancy_code.specs.Instructions.{Instruction}
 use Rattle.fancy_code.specs.Run.{run}
 use Rattle.fancy_prices.specs.declared.front.Front.{Front}

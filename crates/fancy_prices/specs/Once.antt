@@ -4,7 +4,7 @@ use Rattle.std.proofs.Props.{props}
 use mathlib.Core.HLevel.{is_prop→PathP}
 use Rattle.fancy_tree.specs.declared.tree.Meaning.{Meaning}
 use Rattle.fancy_code.specs.declared.code.Code.{Code}
-use Rattle.fancy_code.specs.Events.{any}
+use Rattle.fancy_meaning.specs.Events.{any}
 use Rattle.fancy_code.specs.Instructions.{Instruction}
 use Rattle.fancy_code.specs.Run.{Raw, Note, Stop, choice_opened, returned, fetched}
 use Rattle.fancy_prices.specs.declared.choices.Onward.{Onward}

@@ -2,8 +2,8 @@
 use Rattle.std.specs.Prelude.{◌≡◌, ℕ, suc, ◌-◌, ◌<◌, ◌≤◌, ◌==◌, Bool, true, false, ◌&&◌, List, [], ◌∷◌, length, Option, Some, None, if◌then◌else◌, nat_lt, slice_index}
 use Rattle.fancy_tree.specs.declared.tree.Meaning.{Meaning}
 use Rattle.fancy_bytes.specs.Items.{encoding}
-use Rattle.fancy_code.specs.Context.{Context, State}
-use Rattle.fancy_code.specs.Events.{Event, any, ends_look, marks_in, returns_in}
+use Rattle.fancy_meaning.specs.Context.{Context, State}
+use Rattle.fancy_meaning.specs.Events.{Event, any, ends_look, marks_in, returns_in}
 use Rattle.fancy_code.specs.Instructions.{Instruction, Back, Character, Match, Member}
 use Rattle.fancy_code.specs.Run.{Raw, Note, Stop, choice_opened, returned, fetched, instr_at, run}
 use Rattle.fancy_prices.specs.declared.facts.Ending.{Ending}
@@ -12,7 +12,7 @@ use Rattle.fancy_prices.specs.declared.facts.Before.{Before}
 use Rattle.fancy_prices.specs.declared.price.Price.{Price}
 use Rattle.fancy_tree.specs.Sets.{has}
 use Rattle.fancy_prices.specs.Facts.{IsAlways, IsEnding, IsOfKind, Stands}
-use Rattle.fancy_code.specs.Search.{Query, answer_at, choices_at, gone_through, is_match_boundary, returns_at}
+use Rattle.fancy_meaning.specs.Search.{Query, answer_at, choices_at, gone_through, is_match_boundary, returns_at}
 
 -- no choice is opened
 abbrev pub IsNothing : Price → Type 0

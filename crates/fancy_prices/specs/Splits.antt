@@ -4,7 +4,7 @@ use Rattle.fancy_tree.specs.declared.tree.Meaning.{Meaning}
 use Rattle.fancy_bytes.specs.Sets.{ByteFlags, member}
 use Rattle.fancy_code.specs.declared.code.Code.{Code}
 use Rattle.fancy_code.specs.Code.{instrs_of}
-use Rattle.fancy_code.specs.Context.{Context, State, Unit_at, moved_to, unit_in, with_capture}
+use Rattle.fancy_meaning.specs.Context.{Context, State, Unit_at, moved_to, unit_in, with_capture}
 use Rattle.fancy_code.specs.Instructions.{Instruction, Enter, Split}
 use Rattle.fancy_code.specs.Run.{Note, Stop, fetched, before, instr_at, run}
 use Rattle.fancy_prices.specs.declared.facts.Facts.{Facts}

@@ -1,6 +1,6 @@
 -- Lemmas on the search at the end of a list of matches.
 use Rattle.std.proofs.Common.{arith, ℕ, zero, suc, ◌≡◌, Bool, true, false, not, ◌&&◌, nat_eq, max, Option, None, Some, MatchOption, option_map, if◌then◌else◌, refl}
-use Rattle.fancy_code.specs.Search.{Answer}
+use Rattle.fancy_meaning.specs.Search.{Answer}
 use Rattle.fancy_search.specs.MatchList.{Scan, MatchItem, stop_of, is_empty_item, item_of, answer, unless_empty_at, start_unless_empty_at, next_after, search_start_after, chain_end, end_from, last_start, Sound, FindsNone}
 use Rattle.fancy_search.proofs.MatchListLemmas.{LiesFrom, answer_lies, next_after_follows, Within, within_after}
 

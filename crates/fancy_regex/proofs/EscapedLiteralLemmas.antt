@@ -16,8 +16,8 @@ use Rattle.fancy_syntax.proofs.LiteralSpelling.{IsPlain, StandsFor, StandFor, no
 use Rattle.fancy_input.specs.Places.{is_boundary}
 use Rattle.fancy_input.specs.Requests.{effective_start, positions}
 use Rattle.fancy_input.specs.declared.input.Request.{Request}
-use Rattle.fancy_code.specs.Literals.{stands_within, cuts_none, span_if, first_span}
-use Rattle.fancy_code.proofs.LiteralLemmas.{Seeks, finds_first, anchored_span, text_cuts_none}
+use Rattle.fancy_meaning.specs.Literals.{stands_within, cuts_none, span_if, first_span}
+use Rattle.fancy_meaning.proofs.LiteralLemmas.{Seeks, finds_first, anchored_span, text_cuts_none}
 use Rattle.fancy_search.specs.declared.options.Options.{Options}
 use Rattle.fancy_core.specs.declared.regex.Regex.{Regex}
 use Rattle.fancy_search.specs.Options.{meaning_in}

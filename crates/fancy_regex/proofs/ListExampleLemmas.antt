@@ -3,9 +3,9 @@ use Rattle.std.proofs.Common.{refl}
 use Rattle.std.specs.Str.{chars}
 use Rattle.std.specs.Char.{encode_utf8}
 use Rattle.fancy_input.specs.Places.{char_at, char_before, has_bytes_at, prev_place}
-use Rattle.fancy_code.specs.Context.{continues, unit_at, past_item}
-use Rattle.fancy_code.specs.Trace.{trace, outcomes}
-use Rattle.fancy_code.specs.Search.{answer_at, answer_from}
+use Rattle.fancy_meaning.specs.Context.{continues, unit_at, past_item}
+use Rattle.fancy_meaning.specs.Trace.{trace, outcomes}
+use Rattle.fancy_meaning.specs.Search.{answer_at, answer_from}
 use Rattle.fancy_search.specs.MatchList.{answer, next_after, items_from}
 use Rattle.fancy_regex.specs.ListExamples.{WorkedLists}
 

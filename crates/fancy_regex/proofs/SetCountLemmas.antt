@@ -10,7 +10,7 @@ use Rattle.fancy_input.specs.Requests.{effective_start}
 use Rattle.fancy_code.specs.declared.code.Code.{Code}
 use Rattle.fancy_runner.specs.declared.notes.KeptTable.{KeptTable}
 use Rattle.fancy_code.specs.Code.{worth_of}
-use Rattle.fancy_code.specs.Context.{option_to}
+use Rattle.fancy_meaning.specs.Context.{option_to}
 use Rattle.fancy_runner.specs.KeptTable.{IsKept, steps_from, taken_again}
 use Rattle.fancy_code.specs.Marking.{sum_to}
 use Rattle.fancy_runner.proofs.KeptTableLemmas.{fewer_ahead}

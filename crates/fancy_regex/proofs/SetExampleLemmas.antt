@@ -7,10 +7,10 @@ use Rattle.fancy_tree.specs.Pattern.{Pattern, followed}
 use Rattle.fancy_input.specs.declared.input.Request.{Request}
 use Rattle.fancy_input.specs.Places.{char_at, char_before, has_bytes_at, prev_place}
 use Rattle.fancy_input.specs.Requests.{whole}
-use Rattle.fancy_code.specs.Context.{State, continues, unit_at, past_item}
-use Rattle.fancy_code.specs.Trace.{trace, outcomes}
-use Rattle.fancy_code.specs.Search.{Sought, Query, answer_at}
-use Rattle.fancy_code.specs.Examples.{example_query, a, b, a_or_ab}
+use Rattle.fancy_meaning.specs.Context.{State, continues, unit_at, past_item}
+use Rattle.fancy_meaning.specs.Trace.{trace, outcomes}
+use Rattle.fancy_meaning.specs.Search.{Sought, Query, answer_at}
+use Rattle.fancy_meaning.specs.Examples.{example_query, a, b, a_or_ab}
 use Rattle.fancy_core.specs.declared.regex.Regex.{Regex}
 use Rattle.fancy_core.specs.Regexes.{query}
 use Rattle.fancy_regex.specs.Tokens.{token_at, tokens_from}

@@ -8,7 +8,7 @@ use Rattle.fancy_tree.specs.declared.error.Error.{Error}
 use Rattle.fancy_input.specs.declared.input.Request.{Request}
 use Rattle.fancy_input.specs.declared.span.Span.{Span}
 use Rattle.fancy_input.specs.Requests.{effective_start, positions}
-use Rattle.fancy_code.specs.Search.{Answer, answer_at}
+use Rattle.fancy_meaning.specs.Search.{Answer, answer_at}
 use Rattle.fancy_code.proofs.PositionLemmas.{positions_none}
 use Rattle.fancy_search.specs.Groups.{span_at, spans_of}
 use Rattle.fancy_core.specs.declared.captures.Captures.{Captures}

@@ -4,9 +4,9 @@ use Rattle.std.specs.List.{range_with_len}
 use Rattle.std.specs.Option.{option_or}
 use Rattle.fancy_input.specs.declared.input.Request.{Request}
 use Rattle.fancy_input.specs.Requests.{effective_start, positions}
-use Rattle.fancy_code.specs.Context.{State}
-use Rattle.fancy_code.specs.Search.{Answer, answer_at, answer_from, attempt, search}
-use Rattle.fancy_code.proofs.SearchLemmas.{found_from}
+use Rattle.fancy_meaning.specs.Context.{State}
+use Rattle.fancy_meaning.specs.Search.{Answer, answer_at, answer_from, attempt, search}
+use Rattle.fancy_meaning.proofs.SearchLemmas.{found_from}
 use Rattle.fancy_core.specs.declared.regex.Regex.{Regex}
 use Rattle.fancy_core.specs.Regexes.{query}
 use Rattle.fancy_search.specs.Groups.{spans_of}

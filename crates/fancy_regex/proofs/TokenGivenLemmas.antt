@@ -8,7 +8,7 @@ use Rattle.fancy_input.specs.declared.span.Span.{Span}
 use Rattle.fancy_input.specs.Spans.{from_to}
 use Rattle.fancy_code.specs.declared.found.Found.{Found}
 use Rattle.fancy_code.specs.Queries.{answer_with}
-use Rattle.fancy_code.specs.Search.{Answer, answer_at, attempt, span_of}
+use Rattle.fancy_meaning.specs.Search.{Answer, answer_at, attempt, span_of}
 use Rattle.fancy_search.specs.declared.cache.Cache.{Cache}
 use Rattle.fancy_search.specs.Cached.{found_at}
 use Rattle.fancy_search.specs.Groups.{span_at, spans_of}

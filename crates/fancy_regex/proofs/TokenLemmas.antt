@@ -5,7 +5,7 @@ use Rattle.std.proofs.lemmas.Bool.Decides.{leb_tells, nat_tests}
 use Rattle.std.proofs.lemmas.List.{append_cancel_right}
 use Rattle.std.proofs.lemmas.List.Folds.{drop_split}
 use Rattle.std.proofs.lemmas.Option.{slice_get_past}
-use Rattle.fancy_code.specs.Search.{Answer, answer_at}
+use Rattle.fancy_meaning.specs.Search.{Answer, answer_at}
 use Rattle.fancy_core.specs.declared.regex.Regex.{Regex}
 use Rattle.fancy_regex.specs.SetMembers.{SetQuery, asked, has_answer_at}
 use Rattle.fancy_regex.specs.Tokens.{TokenItem, placed_at, found_by_member, token_if_starts, candidate_at, candidates_at, longest_token, token_at, token_chain, tokens_from, end_of_tokens, IsTokenAt, AreTokensFrom, texts_of_tokens, CutsIntoTokens}

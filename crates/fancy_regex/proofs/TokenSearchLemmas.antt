@@ -2,7 +2,7 @@
 use Rattle.std.proofs.Common.{◌≡◌, ℕ, ◌+◌, ◌<◌, ◌≤◌, false, true, List, Option, Some, None, slice_get, slice_index, take, length, inl, inr, refl, sym, ap, subst, ◌∙◌, arith, true≢false}
 use Rattle.std.proofs.lemmas.Bool.Decides.{leb_tells}
 use Rattle.std.proofs.lemmas.Option.{same_Some}
-use Rattle.fancy_code.specs.Search.{Answer}
+use Rattle.fancy_meaning.specs.Search.{Answer}
 use Rattle.fancy_core.specs.Limited.{AllowsAt}
 use Rattle.fancy_core.specs.declared.regex.Regex.{Regex}
 use Rattle.fancy_core.specs.RegexStarts.{regex_may_start}

@@ -5,10 +5,10 @@ use Rattle.fancy_syntax.specs.Dialect.{IsPattern, standard}
 use Rattle.fancy_tree.specs.Limits.{most_nodes}
 use Rattle.fancy_input.specs.declared.input.Request.{Request}
 use Rattle.fancy_input.specs.Requests.{effective_start, positions}
-use Rattle.fancy_code.specs.Literals.{stands_within, cuts_none, span_if, first_span}
+use Rattle.fancy_meaning.specs.Literals.{stands_within, cuts_none, span_if, first_span}
 use Rattle.fancy_search.specs.Searching.{CanSearch}
 use Rattle.fancy_input.specs.declared.span.Span.{Span}
-use Rattle.fancy_code.specs.Search.{search, span_of}
+use Rattle.fancy_meaning.specs.Search.{search, span_of}
 use Rattle.fancy_core.specs.declared.regex.Regex.{Regex}
 use Rattle.fancy_search.specs.Options.{by_default}
 use Rattle.fancy_core.specs.Regexes.{pattern_text, pattern_in, options_in, query}

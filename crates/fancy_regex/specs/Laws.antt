@@ -9,7 +9,7 @@ use Rattle.fancy_core.specs.declared.regex.Regex.{Regex}
 use Rattle.fancy_core.specs.Pieces.{pieces, first_pieces, interleaved, texts}
 use Rattle.fancy_core.specs.Regexes.{query}
 use Rattle.fancy_core.specs.Searches.{scan_of_input, last_start_of_input, first_groups, groups_of_attempt}
-use Rattle.fancy_code.specs.Search.{search}
+use Rattle.fancy_meaning.specs.Search.{search}
 use Rattle.fancy_regex.specs.SetMembers.{asked_alone, members_at, set_position}
 
 -- the search at the end of the matches of an input finds none

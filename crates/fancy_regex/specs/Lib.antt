@@ -38,15 +38,15 @@ pub use Rattle.fancy_template.specs.Appended
 pub use Rattle.fancy_template.specs.Marks
 pub use Rattle.fancy_template.specs.Expanders
 pub use Rattle.fancy_template.specs.Checks
-pub use Rattle.fancy_code.specs.Context
-pub use Rattle.fancy_code.specs.Search
-pub use Rattle.fancy_code.specs.Answers
+pub use Rattle.fancy_meaning.specs.Context
+pub use Rattle.fancy_meaning.specs.Search
+pub use Rattle.fancy_meaning.specs.Answers
 pub use Rattle.fancy_input.specs.Work
-pub use Rattle.fancy_code.specs.Laws as MeaningLaws
-pub use Rattle.fancy_code.specs.Examples
+pub use Rattle.fancy_meaning.specs.Laws as MeaningLaws
+pub use Rattle.fancy_meaning.specs.Examples
 pub use Rattle.fancy_bytes.specs.Sets as ByteMembers
 pub use Rattle.fancy_bytes.specs.Iterations as ByteIterations
-pub use Rattle.fancy_code.specs.ByteLaws
+pub use Rattle.fancy_meaning.specs.ByteLaws
 pub use Rattle.fancy_search.specs.Options
 pub use Rattle.fancy_search.specs.Starts
 pub use Rattle.fancy_search.specs.Compiled

@@ -5,8 +5,8 @@ use Rattle.fancy_tree.specs.declared.tree.RepeatKind.TheVariants.{Greedy}
 use Rattle.fancy_tree.specs.Pattern.{Pattern, character, keep_start, continue_here, repeat, followed, or_else, last_branch}
 use Rattle.fancy_input.specs.declared.span.Span.{Span}
 use Rattle.fancy_input.specs.Spans.{from_to}
-use Rattle.fancy_code.specs.Search.{Query}
-use Rattle.fancy_code.specs.Examples.{example_query, a, b}
+use Rattle.fancy_meaning.specs.Search.{Query}
+use Rattle.fancy_meaning.specs.Examples.{example_query, a, b}
 use Rattle.fancy_search.specs.MatchList.{span_of_item, matches}
 use Rattle.fancy_search.specs.Remaining.{iteration}
 

@@ -1,7 +1,7 @@
 -- How many steps the search of a set takes: at most as many as searches with each of its members alone.
 use Rattle.std.specs.Prelude.{◌≡◌, ◌≤◌, ◌+◌, ◌-◌, ◌*◌, ℕ, true, All, List, Option, Some, None, sum_by, min, length, slice_get}
 use Rattle.fancy_input.specs.declared.input.Request.{Request}
-use Rattle.fancy_code.specs.Context.{option_to}
+use Rattle.fancy_meaning.specs.Context.{option_to}
 use Rattle.fancy_code.specs.Marking.{sum_to}
 use Rattle.fancy_input.specs.Work.{steps_of, returns_of}
 use Rattle.fancy_core.specs.declared.regex.Regex.{Regex}

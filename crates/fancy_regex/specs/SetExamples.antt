@@ -2,7 +2,7 @@
 use Rattle.std.specs.Prelude.{◌≡◌, ℕ, List, [], ◌∷◌, Option, Some, None, codes}
 use Rattle.fancy_tree.specs.Pattern.{Pattern, followed}
 use Rattle.fancy_input.specs.Requests.{whole}
-use Rattle.fancy_code.specs.Examples.{example_query, a, b, a_or_ab}
+use Rattle.fancy_meaning.specs.Examples.{example_query, a, b, a_or_ab}
 use Rattle.fancy_core.specs.declared.regex.Regex.{Regex}
 use Rattle.fancy_core.specs.Regexes.{query}
 use Rattle.fancy_regex.specs.SetMembers.{SetQuery, members_at, set_position}

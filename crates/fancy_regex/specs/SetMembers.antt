@@ -6,7 +6,7 @@ use Rattle.fancy_tree.specs.declared.error.Error.{Error}
 use Rattle.fancy_input.specs.declared.input.Request.{Request}
 use Rattle.fancy_input.specs.declared.span.Span.{Span}
 use Rattle.fancy_input.specs.Requests.{effective_start, positions}
-use Rattle.fancy_code.specs.Search.{Query, answer_at}
+use Rattle.fancy_meaning.specs.Search.{Query, answer_at}
 use Rattle.fancy_core.specs.declared.regex.Regex.{Regex}
 use Rattle.fancy_core.specs.Limited.{RefusesAt, AllowsAt}
 use Rattle.fancy_core.specs.Regexes.{query}

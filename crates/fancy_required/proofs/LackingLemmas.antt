@@ -5,11 +5,11 @@ use Rattle.memchr.specs.Find.{OccursAt, Nowhere, FindsNeedle}
 use Rattle.fancy_input.specs.Requests.{effective_start, positions}
 use Rattle.fancy_bytes.specs.Openings.{StandsBefore}
 use Rattle.fancy_prefilter.proofs.StandsLemmas.{none_stands}
-use Rattle.fancy_code.specs.Answers.{HasAccepted}
-use Rattle.fancy_code.specs.Search.{Query, search, context_of, initial, trace_at}
-use Rattle.fancy_code.proofs.BeginLemmas.{accepted_holds}
-use Rattle.fancy_code.proofs.ForwardLemmas.{EachOutcome_imp}
-use Rattle.fancy_code.proofs.SearchLemmas.{is-no_answer, all_none}
+use Rattle.fancy_meaning.specs.Answers.{HasAccepted}
+use Rattle.fancy_meaning.specs.Search.{Query, search, context_of, initial, trace_at}
+use Rattle.fancy_meaning.proofs.BeginLemmas.{accepted_holds}
+use Rattle.fancy_meaning.proofs.ForwardLemmas.{EachOutcome_imp}
+use Rattle.fancy_meaning.proofs.SearchLemmas.{is-no_answer, all_none}
 use Rattle.fancy_required.specs.Required.{told_bytes, required_text, StandsFrom}
 use Rattle.fancy_required.proofs.ToldLemmas.{trace_told, longest_stands}
 

@@ -7,17 +7,17 @@ use Rattle.fancy_tree.specs.declared.tree.RepeatKind.{RepeatKind}
 use Rattle.fancy_tree.specs.Pattern.{Pattern, empty, character, member_of, in_any_case, raw_byte, backreference, assertion, group_test, keep_start, continue_here, group, repeat, look_ahead, look_behind, atomic, conditional, followed, or_else, last_branch}
 use Rattle.fancy_bytes.specs.Items.{encoding, only}
 use Rattle.fancy_bytes.specs.Openings.{StandsBefore}
-use Rattle.fancy_code.specs.Context.{Context, State, past_byte, holds, option_to}
-use Rattle.fancy_code.specs.Forward.{EachOutcome, IsBetween}
-use Rattle.fancy_code.specs.Trace.{trace, is_greedy}
-use Rattle.fancy_code.proofs.BeginLemmas.{moved_within}
-use Rattle.fancy_code.proofs.EventLemmas.{EachOutcome-bind, EachOutcome-only_if}
+use Rattle.fancy_meaning.specs.Context.{Context, State, past_byte, holds, option_to}
+use Rattle.fancy_meaning.specs.Forward.{EachOutcome, IsBetween}
+use Rattle.fancy_meaning.specs.Trace.{trace, is_greedy}
+use Rattle.fancy_meaning.proofs.BeginLemmas.{moved_within}
+use Rattle.fancy_meaning.proofs.EventLemmas.{EachOutcome-bind, EachOutcome-only_if}
 use Rattle.fancy_code.proofs.ForetoldLemmas.{item_at}
-use Rattle.fancy_code.proofs.ForwardLemmas.{EachOutcome_imp, LeadsOn-by_kind, LeadsOn-trace}
-use Rattle.fancy_code.proofs.OpenLemmas.{stands_from_drop, stands_append}
-use Rattle.fancy_code.proofs.RequireLemmas.{by_repeated}
-use Rattle.fancy_code.proofs.SeenLemmas.{only_one, past_byte-here}
-use Rattle.fancy_code.proofs.WalkLemmas.{EachOutcome_both}
+use Rattle.fancy_meaning.proofs.ForwardLemmas.{EachOutcome_imp, LeadsOn-by_kind, LeadsOn-trace}
+use Rattle.fancy_meaning.proofs.OpenLemmas.{stands_from_drop, stands_append}
+use Rattle.fancy_meaning.proofs.RequireLemmas.{by_repeated}
+use Rattle.fancy_meaning.proofs.SeenLemmas.{only_one, past_byte-here}
+use Rattle.fancy_meaning.proofs.WalkLemmas.{EachOutcome_both}
 use Rattle.fancy_required.specs.Required.{gap, told_bytes, texts_from, longest_of, StandsFrom}
 
 module _ (haystack : List ℕ) (low end : ℕ) where

@@ -13,8 +13,8 @@ use Rattle.fancy_tree.specs.declared.tree.Assertion.{Assertion}
 use Rattle.fancy_code.specs.Attempt.{instrs_in, context_in, may_end_in}
 use Rattle.fancy_runner.specs.Attempt.{first_accepted_in, begins_in, begins_with, passes_in, KnownIn}
 use Rattle.fancy_code.specs.Branches.{AreBranches, Chooses, OpensTo, TestsTo, dues_in}
-use Rattle.fancy_code.specs.Context.{Context, State, moved_to}
-use Rattle.fancy_code.specs.Events.{return, outcome}
+use Rattle.fancy_meaning.specs.Context.{Context, State, moved_to}
+use Rattle.fancy_meaning.specs.Events.{return, outcome}
 use Rattle.fancy_code.specs.Instructions.{Instruction, Split}
 use Rattle.fancy_code.specs.Marking.{due_in}
 use Rattle.fancy_code.specs.Run.{Raw, Note, Stop, choice_opened, returned, fetched, AllStops, Foretells, erase, instr_at}

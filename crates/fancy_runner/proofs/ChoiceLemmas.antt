@@ -2,8 +2,8 @@
 use Rattle.std.proofs.Common.{◌≡◌, ℕ, Bool, false, List, [], ◌∷◌, Option, Some, None, refl, ap, ◌∙◌, arith, true≢false}
 use Rattle.std.specs.Option.{option_or}
 use Rattle.fancy_code.specs.Choices.{has_stop, stops}
-use Rattle.fancy_code.specs.Context.{Context, State}
-use Rattle.fancy_code.specs.Events.{Event, return}
+use Rattle.fancy_meaning.specs.Context.{Context, State}
+use Rattle.fancy_meaning.specs.Events.{Event, return}
 use Rattle.fancy_code.specs.Instructions.{Instruction, Split}
 use Rattle.fancy_code.specs.Run.{Raw, Note, Stop, choice_opened, returned, fetched, erase, instr_at}
 use Rattle.fancy_code.specs.Thread.{events_of, first_accepted, Known, thread_run, Thread}

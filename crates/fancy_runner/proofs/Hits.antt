@@ -1,7 +1,7 @@
 -- What the code gives from a pair of an instruction and a place: the captures and the kept start change neither how much it is nor whether it is accepted.
 use Rattle.std.proofs.Common.{◌≡◌, Bool, true, false, List, [], ◌∷◌, Option, Some, None, refl, subst}
 use Rattle.std.specs.Prelude.{is_some, if◌then◌else◌}
-use Rattle.fancy_code.specs.Context.{State}
+use Rattle.fancy_meaning.specs.Context.{State}
 use Rattle.fancy_code.specs.Run.{Raw, Note, Stop, Sign, choice_opened, returned, fetched, erase}
 use Rattle.fancy_code.specs.Thread.{first_accepted, events_of, size_of}
 use Rattle.fancy_code.proofs.EasyCode.{Alike, BothAlike, alike_length}

@@ -7,19 +7,19 @@ use Rattle.fancy_input.specs.LastLines.{KnowsLastLines}
 use Rattle.fancy_input.specs.Requests.{effective_start}
 use Rattle.fancy_input.specs.declared.input.Request.{Request}
 use Rattle.fancy_code.specs.Instructions.{Instruction}
-use Rattle.fancy_code.specs.Context.{Context}
+use Rattle.fancy_meaning.specs.Context.{Context}
 use Rattle.fancy_code.specs.Marking.{Marks, worth_in, sum_to, sum_owed}
 use Rattle.fancy_code.specs.declared.code.Code.{Code}
 use Rattle.fancy_runner.specs.declared.notes.KeptTable.{KeptTable}
 use Rattle.fancy_runner.specs.declared.notes.Notes.{Notes}
-use Rattle.fancy_code.specs.declared.options.SearchOptions.{SearchOptions}
-use Rattle.fancy_code.specs.declared.reading.SuppressedEnds.{SuppressedEnds}
+use Rattle.fancy_meaning.specs.declared.options.SearchOptions.{SearchOptions}
+use Rattle.fancy_meaning.specs.declared.reading.SuppressedEnds.{SuppressedEnds}
 use Rattle.fancy_code.specs.Code.{instrs_of, width_of, due_of, worth_of, owed_of}
 use Rattle.fancy_code.specs.CodeLength.{code_len}
 use Rattle.fancy_code.specs.Compile.{IsCodeOf, depth}
-use Rattle.fancy_code.specs.Reading.{search_context, suppressed_ends}
+use Rattle.fancy_meaning.specs.Reading.{search_context, suppressed_ends}
 use Rattle.fancy_runner.specs.Runner.{AllFailed}
-use Rattle.fancy_code.specs.Search.{is_match_boundary}
+use Rattle.fancy_meaning.specs.Search.{is_match_boundary}
 use Rattle.fancy_runner.specs.KeptTable.{marks_from, base_of, IsKept, steps_ahead, steps_from, taken_again}
 use Rattle.fancy_code.proofs.InstructionLemmas.{length-instrs_of}
 use Rattle.fancy_code.proofs.MarkingLemmas.{first_ticks, times_le}

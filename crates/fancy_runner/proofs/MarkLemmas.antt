@@ -3,7 +3,7 @@ use Rattle.std.proofs.Common.{◌≡◌, ℕ, ◌+◌, ◌-◌, ◌*◌, ◌<◌
 use Rattle.std.proofs.lemmas.Bool.{true≢false}
 use Rattle.std.proofs.lemmas.Nat.{same_from_place}
 use Rattle.std.specs.Prelude.{slice_index_or, if◌then◌else◌}
-use Rattle.fancy_code.specs.Context.{option_to}
+use Rattle.fancy_meaning.specs.Context.{option_to}
 use Rattle.fancy_code.specs.Marking.{number_in, worth_in, sum_to, marks, sum_owed, IsNumbered}
 use Rattle.fancy_runner.specs.Table.{IsCleared, IsForgotten}
 use Rattle.fancy_code.proofs.SumLemmas.{sum_le, sum_one}

@@ -6,8 +6,8 @@ use Rattle.std.specs.Option.{option_or}
 use Rattle.std.proofs.lemmas.Bool.{or_cases, false_from_ne_true, true≢false}
 use Rattle.fancy_code.specs.Instructions.{Instruction}
 use Rattle.fancy_code.specs.declared.step.Next.TheVariants.{On}
-use Rattle.fancy_code.specs.Context.{Context, State}
-use Rattle.fancy_code.specs.Events.{Event, mark, return, outcome, either}
+use Rattle.fancy_meaning.specs.Context.{Context, State}
+use Rattle.fancy_meaning.specs.Events.{Event, mark, return, outcome, either}
 use Rattle.fancy_code.specs.Marking.{Marks}
 use Rattle.fancy_code.specs.Thread.{Thread, starts_of, state_of}
 use Rattle.fancy_code.specs.Thread.{events_of, size_of, Known, thread_run, first_accepted, ends_well, pair_run, rank}

@@ -6,8 +6,8 @@ use Rattle.fancy_tree.specs.declared.tree.Assertion.{Assertion}
 use Rattle.fancy_code.specs.Instructions.{Instruction, Match, Fail, Assert, Split, Open, Close}
 use Rattle.fancy_code.specs.declared.step.Next.{Next}
 use Rattle.fancy_code.specs.declared.step.Next.TheVariants.{On, Dead, Found}
-use Rattle.fancy_code.specs.Context.{Context, State, moved_to, with_capture, holds}
-use Rattle.fancy_code.specs.Events.{Event, mark, return, outcome, either}
+use Rattle.fancy_meaning.specs.Context.{Context, State, moved_to, with_capture, holds}
+use Rattle.fancy_meaning.specs.Events.{Event, mark, return, outcome, either}
 use Rattle.fancy_code.specs.Run.{Raw, Note, Stop, choice_opened, returned, fetched, before, join, onward, instr_at, act, run, erase}
 use Rattle.fancy_runner.specs.declared.pair.Pair.{Pair}
 use Rattle.fancy_code.specs.Thread.{Thread, state_of, starts_of, events_of, size_of, first_accepted, IsKnown, Known, thread_run}

@@ -8,8 +8,8 @@ use Rattle.fancy_code.specs.declared.code.Code.{Code}
 use Rattle.fancy_runner.specs.Runner.{burden}
 use Rattle.fancy_code.specs.Instructions.{Instruction}
 use Rattle.fancy_code.specs.declared.step.Next.TheVariants.{On}
-use Rattle.fancy_code.specs.Context.{Context, State}
-use Rattle.fancy_code.specs.Events.{Event, return, outcome}
+use Rattle.fancy_meaning.specs.Context.{Context, State}
+use Rattle.fancy_meaning.specs.Events.{Event, return, outcome}
 use Rattle.fancy_code.specs.Marking.{Marks}
 use Rattle.fancy_code.specs.Thread.{Thread, state_of}
 use Rattle.fancy_code.specs.Thread.{events_of, Known, thread_run, first_accepted, ends_well, rank}

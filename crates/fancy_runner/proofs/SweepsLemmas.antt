@@ -12,7 +12,7 @@ use Rattle.fancy_runner.specs.Attempt.{marks_in}
 use Rattle.fancy_runner.specs.Runs.{EndsIn, FailedTo}
 use Rattle.fancy_runner.specs.Backlog.{threads_in_backlog, TookOldest}
 use Rattle.fancy_code.specs.Compile.{AreEasy}
-use Rattle.fancy_code.specs.Context.{State}
+use Rattle.fancy_meaning.specs.Context.{State}
 use Rattle.fancy_runner.specs.Sweep.{SweepingIn}
 use Rattle.fancy_runner.proofs.SweepLemmas.{sweep_failed, sweep_past}
 use Rattle.fancy_code.specs.Code.{instrs_of}

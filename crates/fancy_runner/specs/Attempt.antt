@@ -7,7 +7,7 @@ use Rattle.fancy_prefilter.specs.declared.branches.Branches.{Branches}
 use Rattle.fancy_code.specs.Branches.{AreBranches}
 use Rattle.fancy_code.specs.Code.{width_of, marks_of, owed_of}
 use Rattle.fancy_runner.specs.Runner.{burden, threads_after, Stepped, AllFailed, FailedPast, Resting, Running, Visited}
-use Rattle.fancy_code.specs.Context.{State, holds}
+use Rattle.fancy_meaning.specs.Context.{State, holds}
 use Rattle.fancy_code.specs.Marking.{Marks}
 use Rattle.fancy_runner.specs.declared.pair.Pair.{Pair}
 use Rattle.fancy_code.specs.Thread.{Thread, empty_slot, thread_run, events_of, first_accepted, ends_well, Known}

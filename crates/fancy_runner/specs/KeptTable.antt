@@ -8,13 +8,13 @@ use Rattle.fancy_code.specs.declared.code.Code.{Code}
 use Rattle.fancy_code.specs.declared.found.Found.{Found}
 use Rattle.fancy_runner.specs.declared.notes.KeptTable.{KeptTable}
 use Rattle.fancy_runner.specs.declared.notes.Notes.{Notes}
-use Rattle.fancy_code.specs.declared.options.SearchOptions.{SearchOptions}
+use Rattle.fancy_meaning.specs.declared.options.SearchOptions.{SearchOptions}
 use Rattle.fancy_runner.specs.declared.notes.Cache.{Cache}
 use Rattle.fancy_code.specs.Marking.{Marks}
 use Rattle.fancy_code.specs.Code.{instrs_of, width_of, due_of, worth_of, marks_of, owed_of}
 use Rattle.fancy_code.specs.CodeLength.{code_len}
-use Rattle.fancy_code.specs.Reading.{search_context, suppressed_ends}
-use Rattle.fancy_code.specs.Search.{is_match_boundary}
+use Rattle.fancy_meaning.specs.Reading.{search_context, suppressed_ends}
+use Rattle.fancy_meaning.specs.Search.{is_match_boundary}
 use Rattle.fancy_runner.specs.Runner.{AllFailed}
 use Rattle.fancy_code.specs.Compile.{IsCodeOf, depth}
 

@@ -3,8 +3,8 @@ use Rattle.std.specs.Prelude.{◌≡◌, ◌≢◌, ℕ, ◌+◌, ◌<◌, ◌�
 use Rattle.fancy_code.specs.Instructions.{Instruction}
 use Rattle.fancy_code.specs.declared.step.Next.{Next}
 use Rattle.fancy_code.specs.declared.step.Next.TheVariants.{On, Dead, Found}
-use Rattle.fancy_code.specs.Context.{Context, State}
-use Rattle.fancy_code.specs.Events.{Event, return, outcome, either}
+use Rattle.fancy_meaning.specs.Context.{Context, State}
+use Rattle.fancy_meaning.specs.Events.{Event, return, outcome, either}
 use Rattle.fancy_code.specs.Marking.{Marks}
 use Rattle.fancy_code.specs.Thread.{Thread, state_of, slot_span, Known, ends_well, events_of, first_accepted, pair_run, rank, size_of, thread_run}
 use Rattle.fancy_code.specs.declared.slot.Slot.{Slot}

@@ -7,7 +7,7 @@ use Rattle.fancy_runner.specs.declared.sweep.Sweep.{Sweep}
 use Rattle.fancy_runner.specs.Backlog.{threads_in_backlog}
 use Rattle.fancy_code.specs.Code.{instrs_of}
 use Rattle.fancy_runner.specs.Runner.{burden}
-use Rattle.fancy_code.specs.Context.{State}
+use Rattle.fancy_meaning.specs.Context.{State}
 use Rattle.fancy_runner.specs.Runner.{found_state, AllWithin}
 use Rattle.fancy_runner.specs.Sweep.{AreRising}
 use Rattle.fancy_code.specs.declared.attempt.Attempt.{Attempt}

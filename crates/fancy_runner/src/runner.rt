@@ -1,7 +1,7 @@
 //! The runner, which follows each pair of an instruction with a mark and a place at most once.
 
 ghost use Rattle.std.specs.Prelude.{◌≡◌, ◌+◌, ◌-◌, ◌^◌, ◌<◌, ◌≤◌, ◌≢◌, ◌⊎◌, ◌++◌, ℕ, List, Option, None, Err, true, false, length, IfOk, IfSome};
-ghost use Rattle.fancy_code.specs.Context.{State, holds};
+ghost use Rattle.fancy_meaning.specs.Context.{State, holds};
 ghost use Rattle.fancy_code.specs.Code.{weight_of, due_of, cost_of, marks_of};
 ghost use Rattle.fancy_runner.specs.Runner.{burden, found_state, Stacked, Grown, Moved, Tested, GoesTo, AllWithin, Spends, Progresses};
 ghost use Rattle.fancy_code.specs.CodeLength.{code_len};
@@ -25,11 +25,11 @@ use crate::table::Table;
 use crate::threads::Threads;
 use fancy_code::attempt::Attempt;
 use fancy_code::code::Instr;
-use fancy_code::options::is_match_boundary;
-use fancy_code::reading::holds_at;
 use fancy_code::step::{Next, past_character, past_member, past_raw_byte};
 use fancy_input::last_lines::LastLines;
 use fancy_input::work::Work;
+use fancy_meaning::options::is_match_boundary;
+use fancy_meaning::reading::holds_at;
 use fancy_prefilter::choice::Choice;
 use fancy_tree::tree::Assertion;
 use std::alloc::AllocError;

@@ -7,7 +7,7 @@ ghost use Rattle.fancy_code.specs.CodeLength.{code_len};
 ghost use Rattle.fancy_runner.specs.Attempt.{bits_in, owed_in, AllFailedIn};
 ghost use Rattle.fancy_runner.specs.KeptTable.{IsKept, table_in, table_base, place_kept, past_tried, steps_from, steps_ahead, taken_again};
 ghost use Rattle.fancy_code.specs.Compile.{IsCodeOf, AreEasy};
-ghost use Rattle.fancy_code.specs.Search.{search};
+ghost use Rattle.fancy_meaning.specs.Search.{search};
 ghost use Rattle.fancy_input.specs.Requests.{effective_start};
 ghost use Rattle.fancy_prefilter.specs.Seen.{NoneMayStart};
 ghost use Rattle.fancy_code.specs.Queries.{query_of, unfiltered, answer_with, most_steps};
@@ -22,11 +22,11 @@ use crate::table::Table;
 use fancy_code::attempt::Attempt;
 use fancy_code::code::Code;
 use fancy_code::found::Found;
-use fancy_code::options::{SearchOptions, is_match_boundary};
-use fancy_code::reading::ready_last_lines;
 use fancy_input::input::Request;
 use fancy_input::refusal::SearchRefusal;
 use fancy_input::work::Work;
+use fancy_meaning::options::{SearchOptions, is_match_boundary};
+use fancy_meaning::reading::ready_last_lines;
 use fancy_prefilter::candidates::next_opening;
 
 /// Makes the table ready for a search that starts at `first`: where none is kept it begins anew, with the marks of each place from its

@@ -1,7 +1,7 @@
 //! Searches that saved much go on without saving more: the threads that are left are followed in the order of their places.
 
 ghost use Rattle.std.specs.Prelude.{◌≡◌, ◌+◌, ◌-◌, ◌*◌, ◌^◌, ◌<◌, ◌≤◌, ◌⊎◌, ◌≢◌, ◌++◌, ◌∷◌, [], ℕ, List, Option, Some, None, Err, true, false, length, reverse, IfOk, IfSome};
-ghost use Rattle.fancy_code.specs.Context.{State};
+ghost use Rattle.fancy_meaning.specs.Context.{State};
 ghost use Rattle.fancy_code.specs.Code.{due_of, instrs_of};
 ghost use Rattle.fancy_runner.specs.Runner.{burden, AllWithin, Grown, found_state};
 ghost use Rattle.fancy_code.specs.CodeLength.{code_len};

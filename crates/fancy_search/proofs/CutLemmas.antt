@@ -9,13 +9,13 @@ use Rattle.fancy_tree.specs.Modes.{meaning_of, keeps_characters}
 use Rattle.fancy_input.specs.Places.{is_boundary}
 use Rattle.fancy_input.specs.declared.input.Request.{Request}
 use Rattle.fancy_input.specs.declared.span.Span.{Span}
-use Rattle.fancy_code.specs.Context.{group_span}
-use Rattle.fancy_code.specs.Search.{Query, search, attempt, span_of}
+use Rattle.fancy_meaning.specs.Context.{group_span}
+use Rattle.fancy_meaning.specs.Search.{Query, search, attempt, span_of}
 use Rattle.fancy_code.specs.declared.found.Found.{Found}
 use Rattle.fancy_search.specs.declared.cache.Cache.{Cache}
 use Rattle.fancy_search.specs.Cached.{found_at}
-use Rattle.fancy_code.specs.Placed.{has_keep_start_in_look_around, any_place, LiesWithin, KeepsBoundaries, by_characters, of_ascii, reads_characters}
-use Rattle.fancy_code.proofs.FoundLemmas.{answer_within, answer_on_boundaries, attempt_within, attempt_on_boundaries}
+use Rattle.fancy_meaning.specs.Placed.{has_keep_start_in_look_around, any_place, LiesWithin, KeepsBoundaries, by_characters, of_ascii, reads_characters}
+use Rattle.fancy_meaning.proofs.FoundLemmas.{answer_within, answer_on_boundaries, attempt_within, attempt_on_boundaries}
 use Rattle.fancy_search.specs.declared.program.Program.{Program}
 use Rattle.fancy_search.specs.Programs.{program_options, asked_of}
 use Rattle.fancy_search.specs.Searching.{Suits}

@@ -3,8 +3,8 @@ use Rattle.std.proofs.Common.{◌≡◌, ℕ, ◌+◌, true, Option, Some, None,
 use Rattle.std.specs.Option.{option_map, option_or}
 use Rattle.std.proofs.Math.Logic.{∥∥₁_elim}
 use Rattle.std.proofs.Props.{props}
-use Rattle.fancy_code.specs.Context.{State}
-use Rattle.fancy_code.specs.Search.{Answer, Query, answer_at, answer_from}
+use Rattle.fancy_meaning.specs.Context.{State}
+use Rattle.fancy_meaning.specs.Search.{Answer, Query, answer_at, answer_from}
 use Rattle.fancy_code.proofs.PassedLemmas.{openings_passed}
 use Rattle.fancy_prefilter.specs.NextOpening.{IsRuledOut, StartsNot, by_opening}
 use Rattle.fancy_search.specs.declared.program.Program.{Program}

@@ -9,13 +9,13 @@ use Rattle.fancy_input.specs.Requests.{effective_start, positions}
 use Rattle.fancy_input.specs.declared.input.Request.{Request}
 use Rattle.fancy_code.specs.declared.code.Code.{Code}
 use Rattle.fancy_code.specs.declared.found.Found.{Found}
-use Rattle.fancy_code.specs.declared.options.SearchOptions.{SearchOptions}
+use Rattle.fancy_meaning.specs.declared.options.SearchOptions.{SearchOptions}
 use Rattle.fancy_runner.specs.declared.notes.KeptTable.{KeptTable}
 use Rattle.fancy_runner.specs.declared.notes.Notes.{Notes}
 use Rattle.fancy_input.specs.declared.span.Span.{Span}
-use Rattle.fancy_code.specs.Context.{State}
+use Rattle.fancy_meaning.specs.Context.{State}
 use Rattle.fancy_code.specs.Queries.{answer_with}
-use Rattle.fancy_code.specs.Search.{Query, Answer, attempt, answer_at}
+use Rattle.fancy_meaning.specs.Search.{Query, Answer, attempt, answer_at}
 use Rattle.fancy_runner.specs.KeptTable.{IsKept, base_of, place_kept, past_tried, steps_ahead, steps_from, table_in, taken_again}
 use Rattle.fancy_search.specs.declared.asked.Asked.{Asked}
 use Rattle.fancy_search.specs.Served.{StandsIn}

@@ -1,7 +1,7 @@
 -- Lemmas on the list of matches.
 use Rattle.std.proofs.Common.{arith, ℕ, zero, suc, ◌+◌, ◌<◌, ◌≤◌, ◌≡◌, Bool, true, false, not, ◌&&◌, nat_eq, max, [], ◌∷◌, length, Option, None, Some, MatchOption, option_map, if◌then◌else◌, refl, ap}
 use Rattle.std.proofs.lemmas.Grind.{common_steps}
-use Rattle.fancy_code.specs.Search.{Answer}
+use Rattle.fancy_meaning.specs.Search.{Answer}
 use Rattle.fancy_search.specs.MatchList.{Scan, MatchItem, start_of, stop_of, is_empty_item, item_of, answer, unless_empty_at, next_after, search_start_after, chain, items_from, matches, chain_end, end_from, Sound, Lies, RiseAfter, InOrder}
 
 -- an answer, if there is one, lies after its start

@@ -7,12 +7,12 @@ use Rattle.std.proofs.lemmas.Option.{get_or_from_slice_get, same_Some}
 use Rattle.fancy_code.specs.declared.code.Code.{Code}
 use Rattle.fancy_code.specs.Code.{instrs_of}
 use Rattle.fancy_code.specs.Compile.{IsCodeOf, depth}
-use Rattle.fancy_code.specs.Context.{Context, State, moved_to, unit_at, past_item, past_byte}
-use Rattle.fancy_code.specs.Events.{Event, stay, move, outcomes_in}
+use Rattle.fancy_meaning.specs.Context.{Context, State, moved_to, unit_at, past_item, past_byte}
+use Rattle.fancy_meaning.specs.Events.{Event, stay, move, outcomes_in}
 use Rattle.fancy_code.specs.Instructions.{Instruction, Match, Fail, Character, Member, RawByte, Assert, Split, Open, Close, Enter, Commit, Look, Deny, Test, Back, Recall, Keep, Continue, Taken}
 use Rattle.fancy_code.specs.Run.{Raw, Note, Stop, fetched, Go, before, onward, instr_at, act, run, erase}
-use Rattle.fancy_code.specs.Search.{Query, Answer, answer_at, attempt, accepted, first_one, longest_one, context_of, initial, trace_at}
-use Rattle.fancy_code.specs.Trace.{outcomes}
+use Rattle.fancy_meaning.specs.Search.{Query, Answer, answer_at, attempt, accepted, first_one, longest_one, context_of, initial, trace_at}
+use Rattle.fancy_meaning.specs.Trace.{outcomes}
 use Rattle.fancy_code.proofs.WholeCode.{program_gives}
 use Rattle.fancy_search.specs.declared.asked.Asked.{Asked}
 use Rattle.fancy_search.specs.declared.program.Program.{Program}

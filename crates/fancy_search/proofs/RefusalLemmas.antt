@@ -8,7 +8,7 @@ use Rattle.fancy_tree.specs.declared.error.RuntimeError.TheVariants.{BacktrackLi
 use Rattle.fancy_input.specs.declared.refusal.SearchRefusal.{SearchRefusal}
 use Rattle.fancy_input.specs.declared.refusal.SearchRefusal.TheVariants.{Memory, Returns, Choices, Steps}
 use Rattle.fancy_input.specs.declared.work.Work.{Work}
-use Rattle.fancy_code.specs.Search.{Query}
+use Rattle.fancy_meaning.specs.Search.{Query}
 use Rattle.fancy_input.specs.Work.{IsSpent}
 use Rattle.fancy_runner.specs.Refusals.{IsRunnersRefusal}
 use Rattle.fancy_search.specs.declared.program.Program.{Program}

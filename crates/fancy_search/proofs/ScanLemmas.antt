@@ -4,12 +4,13 @@ use Rattle.std.proofs.lemmas.Grind.{common_steps}
 use Rattle.fancy_input.specs.declared.input.Request.{Request}
 use Rattle.fancy_input.specs.Requests.{effective_start}
 use Rattle.fancy_input.proofs.PlaceLemmas.{next_place_above}
-use Rattle.fancy_code.specs.Search.{Answer, search}
+use Rattle.fancy_meaning.specs.Search.{Answer, search}
 use Rattle.fancy_code.specs.declared.found.Found.{Found}
 use Rattle.fancy_search.specs.declared.cache.Cache.{Cache}
 use Rattle.fancy_search.specs.Cached.{found_at, IsAnswerIn}
-use Rattle.fancy_code.proofs.PositionLemmas.{search_over, positions_none}
-use Rattle.fancy_code.proofs.FoundLemmas.{answer_within, found-is_reached}
+use Rattle.fancy_code.proofs.PositionLemmas.{positions_none}
+use Rattle.fancy_meaning.proofs.AttemptLemmas.{search_over}
+use Rattle.fancy_meaning.proofs.FoundLemmas.{answer_within, found-is_reached}
 use Rattle.fancy_search.specs.declared.program.Program.{Program}
 use Rattle.fancy_search.specs.Programs.{asked_of, program_options}
 use Rattle.fancy_search.specs.Searching.{Suits}

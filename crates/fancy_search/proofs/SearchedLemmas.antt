@@ -6,20 +6,20 @@ use Rattle.fancy_tree.specs.declared.tree.Meaning.{Meaning}
 use Rattle.fancy_bytes.specs.Firsts.{AreStartBytes}
 use Rattle.fancy_prefilter.specs.Seen.{NoneMayStart}
 use Rattle.fancy_code.proofs.TriedLemmas.{none_found, none_may_start, not_seeking}
-use Rattle.fancy_code.specs.Tried.{tried, NoneTried}
+use Rattle.fancy_meaning.specs.Tried.{tried, NoneTried}
 use Rattle.fancy_bytes.specs.Items.{includes}
 use Rattle.fancy_bytes.specs.Lacks.{includes_all}
 use Rattle.fancy_search.specs.Options.{meaning_in}
 use Rattle.fancy_bytes.specs.Required.{required_bytes}
 use Rattle.fancy_bytes.proofs.BoolLemmas.{some_found, parts_of, and_never}
 use Rattle.fancy_bytes.proofs.LackLemmas.{stands_included, lacks_one}
-use Rattle.fancy_code.proofs.SkipLemmas.{lacking_is_none}
+use Rattle.fancy_meaning.proofs.SkipLemmas.{lacking_is_none}
 use Rattle.fancy_required.specs.Required.{StandsFrom}
 use Rattle.fancy_required.proofs.LackingLemmas.{text_lacking_is_none}
-use Rattle.fancy_code.specs.Events.{Event, returns_in}
+use Rattle.fancy_meaning.specs.Events.{Event, returns_in}
 use Rattle.fancy_input.specs.Requests.{positions}
 use Rattle.fancy_search.specs.SearchCounts.{TriesNothing, lacks_required, is_hopeless, tried_by, returns_taken}
-use Rattle.fancy_code.specs.Search.{Query, Answer, search, attempt, answer_at, is_match_boundary, gone_through, gone_from, returns}
+use Rattle.fancy_meaning.specs.Search.{Query, Answer, search, attempt, answer_at, is_match_boundary, gone_through, gone_from, returns}
 use Rattle.fancy_code.specs.Queries.{answer_with}
 use Rattle.fancy_code.specs.declared.found.Found.{Found}
 use Rattle.fancy_search.specs.declared.asked.Asked.{Asked}
@@ -27,12 +27,13 @@ use Rattle.fancy_search.specs.Served.{StandsIn, IsPosition}
 use Rattle.fancy_input.specs.declared.span.Span.{Span}
 use Rattle.fancy_input.specs.declared.input.Request.{Request}
 use Rattle.fancy_input.specs.Requests.{effective_start}
-use Rattle.fancy_code.proofs.AttemptLemmas.{anchored_at, anchored_easy}
+use Rattle.fancy_meaning.proofs.AttemptLemmas.{anchored_at}
+use Rattle.fancy_code.proofs.PositionLemmas.{anchored_easy}
 use Rattle.fancy_code.proofs.ClassifyLemmas.{easy_code}
 use Rattle.fancy_search.specs.declared.program.Program.{Program}
 use Rattle.fancy_search.specs.Programs.{program_options, program_pattern, program_is_easy, asked_of, query_in}
 use Rattle.fancy_search.proofs.ProgramSizeLemmas.{parts_of_easy}
-use Rattle.fancy_code.proofs.FoundLemmas.{answer_within, attempt_within}
+use Rattle.fancy_meaning.proofs.FoundLemmas.{answer_within, attempt_within}
 
 -- what holds of a value, if there is one, holds of each that there is
 pub each_some : (o : Option (List ℕ)) (P : List ℕ → Type 0) → IfSome o P → (x : List ℕ) → o ≡ Some x → P x

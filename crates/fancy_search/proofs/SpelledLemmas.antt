@@ -14,7 +14,7 @@ use Rattle.fancy_syntax.specs.declared.groups.Grouping.TheVariants.{Atomic, Look
 use Rattle.fancy_tree.specs.Refers.{refers_to}
 use Rattle.fancy_tree.specs.Pattern.{Pattern, empty, character, member_of, in_any_case, raw_byte, backreference, assertion, group_test, keep_start, continue_here, group, repeat, look_ahead, look_behind, atomic, conditional, followed, or_else, last_branch, in_sequence, in_choice, in_branches}
 use Rattle.fancy_syntax.specs.Dialect.{Scope, inside, group_of, back_to, literal_of, Branches, one, either, Parts, nothing, item, Item, set, bare, quantified, Atom, single, plain, flagged, capture, unnamed, named, marked, reference, reference_by_name, tested, decided, conditional_of, Spells, DialectOptions, IsPattern, with_part}
-use Rattle.fancy_code.specs.Placed.{has_raw_byte, has_keep_start, has_keep_start_in_look_around}
+use Rattle.fancy_meaning.specs.Placed.{has_raw_byte, has_keep_start, has_keep_start_in_look_around}
 
 -- whether a place inside such a group, at a place inside of look-around or not, is inside of look-around
 abbrev looks : Grouping → Bool → Bool

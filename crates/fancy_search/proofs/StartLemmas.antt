@@ -7,8 +7,8 @@ use Rattle.fancy_tree.specs.Pattern.{Pattern}
 use Rattle.fancy_bytes.specs.Firsts.{nullable, has_start_bytes, first_bytes, AreStartBytes}
 use Rattle.fancy_bytes.specs.Sets.{ByteFlags, member}
 use Rattle.fancy_bytes.proofs.BoolLemmas.{parts_of}
-use Rattle.fancy_code.specs.Search.{Query, answer_at}
-use Rattle.fancy_code.proofs.SkipLemmas.{none_here}
+use Rattle.fancy_meaning.specs.Search.{Query, answer_at}
+use Rattle.fancy_meaning.proofs.SkipLemmas.{none_here}
 use Rattle.fancy_search.specs.declared.program.Program.{Program}
 use Rattle.fancy_search.specs.Options.{meaning_in}
 use Rattle.fancy_search.specs.Programs.{program_pattern, program_options}

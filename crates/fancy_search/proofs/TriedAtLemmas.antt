@@ -9,9 +9,9 @@ use Rattle.fancy_bytes.specs.Items.{includes}
 use Rattle.fancy_bytes.specs.Required.{required_bytes}
 use Rattle.fancy_bytes.proofs.BoolLemmas.{parts_of, some_found}
 use Rattle.fancy_bytes.proofs.LackLemmas.{stands_included}
-use Rattle.fancy_code.specs.Search.{Query, answer_at, attempt, returns_at, choices_at}
-use Rattle.fancy_code.specs.Tried.{may_begin}
-use Rattle.fancy_code.proofs.SkipLemmas.{lacking_at}
+use Rattle.fancy_meaning.specs.Search.{Query, answer_at, attempt, returns_at, choices_at}
+use Rattle.fancy_meaning.specs.Tried.{may_begin}
+use Rattle.fancy_meaning.proofs.SkipLemmas.{lacking_at}
 use Rattle.fancy_search.specs.declared.program.Program.{Program}
 use Rattle.fancy_search.specs.Programs.{program_options}
 use Rattle.fancy_search.specs.SearchCounts.{lacks_required, tried_by, returns_taken_at, choices_opened_at}

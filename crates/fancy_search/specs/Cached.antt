@@ -2,7 +2,7 @@
 use Rattle.std.specs.Prelude.{◌≡◌, ℕ, List, Option, None, IsTrue, replicate}
 use Rattle.fancy_input.specs.Places.{is_boundary}
 use Rattle.fancy_input.specs.declared.span.Span.{Span}
-use Rattle.fancy_code.specs.Search.{Query, Answer, search, attempt}
+use Rattle.fancy_meaning.specs.Search.{Query, Answer, search, attempt}
 use Rattle.fancy_code.specs.declared.found.Found.{Found}
 use Rattle.fancy_runner.specs.Groups.{groups_in}
 use Rattle.fancy_code.specs.Queries.{answer_with}

@@ -1,6 +1,6 @@
 -- Which code the automaton follows.
 use Rattle.std.specs.Prelude.{◌≡◌, ℕ, true}
-use Rattle.fancy_automaton.specs.Futures.{is_plain_instr}
+use Rattle.fancy_states.specs.Futures.{is_plain_instr}
 use Rattle.fancy_code.specs.declared.code.Code.{Code}
 use Rattle.fancy_code.specs.Code.{instrs_of}
 use Rattle.fancy_code.specs.Run.{instr_at}

@@ -3,8 +3,8 @@ use Rattle.std.specs.Prelude.{◌≡◌, ◌≤◌, ◌==◌, ◌∷◌, [], ℕ
 use Rattle.std.specs.List.{range_with_len}
 use Rattle.fancy_input.specs.Places.{is_boundary}
 use Rattle.fancy_input.specs.declared.span.Span.{Span}
-use Rattle.fancy_code.specs.Context.{group_span}
-use Rattle.fancy_code.specs.Search.{Answer, span_of}
+use Rattle.fancy_meaning.specs.Context.{group_span}
+use Rattle.fancy_meaning.specs.Search.{Answer, span_of}
 use Rattle.fancy_search.specs.declared.groups.GroupSpans.{GroupSpans}
 
 -- the span of one group, if it took part

@@ -12,9 +12,9 @@ use Rattle.fancy_input.specs.Work.{steps_of}
 use Rattle.fancy_code.specs.declared.found.Found.{Found}
 use Rattle.fancy_runner.specs.declared.notes.KeptTable.{KeptTable}
 use Rattle.fancy_input.specs.declared.work.Work.{Work}
-use Rattle.fancy_automaton.specs.declared.cells.Cells.{Cells}
-use Rattle.fancy_automaton.specs.Cells.{IsBounded}
-use Rattle.fancy_automaton.specs.Remembered.{Remembers}
+use Rattle.fancy_states.specs.declared.cells.Cells.{Cells}
+use Rattle.fancy_states.specs.Cells.{IsBounded}
+use Rattle.fancy_states.specs.Remembered.{Remembers}
 use Rattle.fancy_machine.specs.Asked.{lines_held}
 use Rattle.fancy_search.specs.declared.asked.Asked.{Asked}
 use Rattle.fancy_search.specs.declared.cache.AttemptNotes.{AttemptNotes}

@@ -2,7 +2,7 @@
 use Rattle.std.specs.Prelude.{ℕ, zero, suc, ◌<◌, ◌≤◌, ◌≡◌, Bool, true, false, not, ◌&&◌, nat_eq, max, List, [], ◌∷◌, Option, None, Some, option_map, if◌then◌else◌}
 use Rattle.fancy_input.specs.declared.span.Span.{Span}
 use Rattle.fancy_input.specs.Spans.{from_to}
-use Rattle.fancy_code.specs.Search.{Answer}
+use Rattle.fancy_meaning.specs.Search.{Answer}
 
 -- What is searched, again and again: what a search from a start finds, with `\G` on or off; the next place after a place; and the ends of the range.
 pub record Scan : Type 0 where

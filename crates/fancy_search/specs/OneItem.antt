@@ -1,9 +1,9 @@
 -- Patterns of one item.
 use Rattle.std.specs.Prelude.{◌≡◌, ◌==◌, ◌&&◌, ℕ, Option, Some, None, nat_le, if◌then◌else◌}
 use Rattle.fancy_tree.specs.Sets.{has}
-use Rattle.fancy_code.specs.Context.{Context, moved_to, past_item, past_byte}
+use Rattle.fancy_meaning.specs.Context.{Context, moved_to, past_item, past_byte}
 use Rattle.fancy_code.specs.Instructions.{Instruction, Match, Fail, Character, Member, RawByte, Assert, Split, Open, Close, Enter, Commit, Look, Deny, Test, Back, Recall, Keep, Continue, Taken}
-use Rattle.fancy_code.specs.Search.{Query, Answer, accepted, initial}
+use Rattle.fancy_meaning.specs.Search.{Query, Answer, accepted, initial}
 
 -- The instruction reads one item at p, after which there is an outcome: at this place, or nowhere if the item does not stand there.
 abbrev pub ReadsOne : Context → Instruction → ℕ → Option ℕ → Type 0

@@ -8,8 +8,8 @@ use Rattle.fancy_tree.specs.Modes.{keeps_characters}
 use Rattle.fancy_syntax.specs.Dialect.{DialectOptions}
 use Rattle.fancy_syntax.specs.Flags.{flags_of}
 use Rattle.fancy_tree.specs.Pattern.{Pattern}
-use Rattle.fancy_code.specs.Easy.{is_easy}
-use Rattle.fancy_code.specs.declared.options.SearchOptions.{SearchOptions}
+use Rattle.fancy_meaning.specs.Easy.{is_easy}
+use Rattle.fancy_meaning.specs.declared.options.SearchOptions.{SearchOptions}
 use Rattle.fancy_search.specs.declared.options.Options.{Options}
 
 abbrev pub by_default : Options

@@ -6,7 +6,7 @@ use Rattle.fancy_tree.specs.Pattern.{Pattern}
 use Rattle.fancy_tree.specs.Text.{Text}
 use Rattle.fancy_input.specs.declared.input.Request.{Request}
 use Rattle.fancy_code.specs.CodeLength.{code_len}
-use Rattle.fancy_code.specs.Search.{Sought, Query}
+use Rattle.fancy_meaning.specs.Search.{Sought, Query}
 use Rattle.fancy_search.specs.declared.asked.Asked.{Asked}
 use Rattle.fancy_search.specs.declared.options.Options.{Options}
 use Rattle.fancy_search.specs.declared.program.Program.{Program}

@@ -4,7 +4,7 @@ use Rattle.fancy_input.specs.declared.span.Span.{Span}
 use Rattle.fancy_tree.specs.declared.error.Error.{Error}
 use Rattle.fancy_input.specs.declared.input.Request.{Request}
 use Rattle.fancy_input.specs.Places.{next_place}
-use Rattle.fancy_code.specs.Search.{Query, search}
+use Rattle.fancy_meaning.specs.Search.{Query, search}
 use Rattle.fancy_search.specs.declared.program.Program.{Program}
 use Rattle.fancy_search.specs.Programs.{asked_of}
 use Rattle.fancy_search.specs.SearchCounts.{RefusesQuery, AllowsQuery}

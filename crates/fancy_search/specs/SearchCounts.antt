@@ -10,8 +10,8 @@ use Rattle.fancy_input.specs.declared.input.Request.{Request}
 use Rattle.fancy_input.specs.Requests.{effective_start}
 use Rattle.fancy_input.specs.declared.work.Work.{Work}
 use Rattle.fancy_input.specs.Work.{steps_of, returns_of, HasRoom, HasWorkFor, IsSpent, IsWithin}
-use Rattle.fancy_code.specs.Tried.{tried}
-use Rattle.fancy_code.specs.Search.{Query, returns, choices, returns_at, choices_at}
+use Rattle.fancy_meaning.specs.Tried.{tried}
+use Rattle.fancy_meaning.specs.Search.{Query, returns, choices, returns_at, choices_at}
 use Rattle.fancy_search.specs.declared.program.Program.{Program}
 use Rattle.fancy_search.specs.Programs.{program_options, program_is_easy, program_length, program_limit, program_stack_limit, program_step_limit}
 

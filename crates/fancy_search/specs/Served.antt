@@ -6,8 +6,8 @@ use Rattle.fancy_input.specs.Requests.{effective_start}
 use Rattle.fancy_code.specs.declared.found.Found.{Found}
 use Rattle.fancy_input.specs.declared.work.Work.{Work}
 use Rattle.fancy_input.specs.Work.{steps_of, returns_of}
-use Rattle.fancy_code.specs.Search.{Query}
-use Rattle.fancy_code.specs.Tried.{NoneTried}
+use Rattle.fancy_meaning.specs.Search.{Query}
+use Rattle.fancy_meaning.specs.Tried.{NoneTried}
 use Rattle.fancy_machine.specs.Asked.{HeedsLimit}
 use Rattle.fancy_search.specs.declared.asked.Asked.{Asked}
 use Rattle.fancy_search.specs.declared.cache.Cache.{Cache}

@@ -4,7 +4,7 @@ use Rattle.fancy_tree.specs.declared.tree.Meaning.{Meaning}
 use Rattle.fancy_tree.specs.Pattern.{Pattern}
 use Rattle.fancy_bytes.specs.Firsts.{has_start_bytes, first_bytes}
 use Rattle.fancy_input.specs.declared.input.Request.{Request}
-use Rattle.fancy_code.specs.Search.{answer_at}
+use Rattle.fancy_meaning.specs.Search.{answer_at}
 use Rattle.fancy_search.specs.declared.program.Program.{Program}
 use Rattle.fancy_search.specs.Programs.{program_is_easy, asked_of}
 

@@ -1,14 +1,13 @@
 //! What searches work in, by whichever engine.
 
 ghost use Rattle.std.specs.Prelude.{◌≡◌, ℕ, List, [], None, IfOk, IfErr, IfSome, true, slice_index_or};
-ghost use Rattle.fancy_automaton.specs.Cells.{IsBounded};
-ghost use Rattle.fancy_automaton.specs.Remembered.{Remembers};
+ghost use Rattle.fancy_states.specs.Cells.{IsBounded};
+ghost use Rattle.fancy_states.specs.Remembered.{Remembers};
 ghost use Rattle.fancy_code.specs.declared.code.Code.{Code};
 ghost use Rattle.fancy_input.specs.Work.{steps_of, returns_of, units_of};
 
 use crate::following::{Lengths, is_long_enough};
 use crate::read_past::ReadPast;
-use fancy_automaton::cells::Cells;
 use fancy_bytes::lacking::KnownBytes;
 use fancy_input::input::Request;
 use fancy_input::span::Span;
@@ -16,6 +15,7 @@ use fancy_input::work::Work;
 use fancy_machine::search as machine;
 use fancy_runner::notes::{KeptTable, Notes};
 use fancy_runner::search as runner;
+use fancy_states::cells::Cells;
 use std::alloc::{AllocError, Global};
 
 /// Which engine served a search.

@@ -2,7 +2,7 @@
 
 ghost use Rattle.std.specs.Prelude.{◌≡◌, IfSome};
 ghost use Rattle.fancy_code.specs.Code.{instrs_of};
-ghost use Rattle.fancy_code.specs.Context.{Context};
+ghost use Rattle.fancy_meaning.specs.Context.{Context};
 ghost use Rattle.fancy_code.specs.Run.{instr_at};
 ghost use Rattle.fancy_search.specs.OneItem.{ReadsOne};
 

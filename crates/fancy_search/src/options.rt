@@ -7,7 +7,7 @@ ghost use Rattle.fancy_search.specs.Options.{by_default, meaning_in, dialect_of,
 ghost use Rattle.fancy_search.specs.ProgramSize.{passes};
 
 use fancy_code::classify::is_easy;
-use fancy_code::options::SearchOptions;
+use fancy_meaning::options::SearchOptions;
 use fancy_syntax::flags::Flags;
 use fancy_syntax::parse::ParseOptions;
 use fancy_tree::tree::{BytesMode, Meaning, Tree};

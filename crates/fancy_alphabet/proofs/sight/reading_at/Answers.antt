@@ -1,7 +1,7 @@
 use Rattle.std.proofs.Common.{◌∙◌, Bool, Some, None, sym, ap}
 use Rattle.std.specs.Prelude.{if◌then◌else◌}
 use Rattle.std.proofs.lemmas.Bool.{le-leb, lt-leb}
-use Rattle.fancy_code.specs.Reading.{unit_read}
+use Rattle.fancy_meaning.specs.Reading.{unit_read}
 use Rattle.fancy_alphabet.specs.Units.{cut}
 use Rattle.fancy_alphabet.proofs.SightLemmas.{unit_is}
 use Rattle.fancy_alphabet.proofs.sight.reading_at.Goals as goal

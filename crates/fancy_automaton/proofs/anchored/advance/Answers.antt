@@ -1,5 +1,5 @@
 use Rattle.std.proofs.Common.{refl, sym}
-use Rattle.fancy_automaton.proofs.CellLemmas.{row_ways}
+use Rattle.fancy_states.proofs.CellLemmas.{row_ways}
 use Rattle.fancy_automaton.proofs.WalkLemmas.{decided_moved, rests_placed}
 use Rattle.fancy_automaton.proofs.anchored.advance.Goals as goal
 

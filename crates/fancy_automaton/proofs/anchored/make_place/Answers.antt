@@ -1,4 +1,4 @@
-use Rattle.fancy_automaton.proofs.CellLemmas.{row_of}
+use Rattle.fancy_states.proofs.CellLemmas.{row_of}
 use Rattle.fancy_automaton.proofs.anchored.make_place.Goals as goal
 
 pub returns-then-not-is_full-clause-row : goal.returns-then-not-is_full-clause-row

@@ -2,9 +2,9 @@ use Rattle.std.proofs.Common.{◌+◌, ◌∙◌, ap, arith, inl, option_map}
 use Rattle.fancy_code.specs.CodeLength.{code_len}
 use Rattle.fancy_prefilter.proofs.NextLemmas.{starts_somewhere}
 use Rattle.fancy_automaton.specs.Decided.{attempt_goal}
-use Rattle.fancy_automaton.specs.Search.{ends_in}
-use Rattle.fancy_automaton.proofs.CellLemmas.{row_ways}
-use Rattle.fancy_automaton.proofs.CountLemmas.{counts_more, counts_none, counts_up}
+use Rattle.fancy_states.specs.Search.{ends_in}
+use Rattle.fancy_states.proofs.CellLemmas.{row_ways}
+use Rattle.fancy_states.proofs.CountLemmas.{counts_more, counts_none, counts_up}
 use Rattle.fancy_automaton.proofs.WalkLemmas.{attempt_decided, attempt_none, decided_end, rests_placed}
 use Rattle.fancy_automaton.proofs.anchored.span_at.Goals as goal
 

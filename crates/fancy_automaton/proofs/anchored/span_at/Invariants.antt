@@ -1,7 +1,7 @@
 use Rattle.std.proofs.Common.{◌+◌, ◌-◌, ◌*◌, ◌≤◌}
 use Rattle.fancy_code.specs.CodeLength.{code_len}
-use Rattle.fancy_automaton.specs.Cells.{HoldsFor}
-use Rattle.fancy_automaton.specs.Counts.{AddsSteps}
+use Rattle.fancy_states.specs.Cells.{HoldsFor}
+use Rattle.fancy_states.specs.Counts.{AddsSteps}
 use Rattle.fancy_automaton.specs.Decided.{IsDecided, Rests, attempt_goal}
 use Rattle.fancy_automaton.proofs.anchored.span_at.Given as goal
 

@@ -1,9 +1,9 @@
 use Rattle.std.proofs.Common.{arith, Option, option_map, refl, subst, sym, ℕ}
-use Rattle.fancy_code.specs.Reading.{unit_read}
+use Rattle.fancy_meaning.specs.Reading.{unit_read}
 use Rattle.fancy_alphabet.specs.Units.{place_after}
-use Rattle.fancy_automaton.specs.Cells.{ways_at}
+use Rattle.fancy_states.specs.Cells.{ways_at}
 use Rattle.fancy_automaton.specs.Decided.{Decided}
-use Rattle.fancy_automaton.proofs.CellLemmas.{row_within}
+use Rattle.fancy_states.proofs.CellLemmas.{row_within}
 use Rattle.fancy_automaton.proofs.DecidedLemmas.{advanced}
 use Rattle.fancy_automaton.proofs.WalkLemmas.{step_rests}
 use Rattle.fancy_automaton.proofs.anchored.step.Goals as goal

@@ -3,10 +3,10 @@ use Rattle.fancy_code.specs.Attempt.{context_in}
 use Rattle.fancy_alphabet.proofs.NumberLemmas.{seen_low}
 use Rattle.fancy_alphabet.specs.Classes.{IsStart}
 use Rattle.fancy_alphabet.specs.Sides.{seen_as}
-use Rattle.fancy_automaton.specs.Cells.{ways_at}
+use Rattle.fancy_states.specs.Cells.{ways_at}
 use Rattle.fancy_automaton.specs.Decided.{Decided, IsPlaced, Opens}
 use Rattle.fancy_automaton.specs.declared.hop.Stand.{Stand}
-use Rattle.fancy_automaton.specs.declared.transitions.Transition.{Transition}
+use Rattle.fancy_states.specs.declared.transitions.Transition.{Transition}
 use Rattle.fancy_automaton.proofs.SoleLemmas.{reads}
 use Rattle.fancy_automaton.proofs.WalkLemmas.{Walked, walked_found, walked_quiet}
 use Rattle.fancy_automaton.proofs.follow.lengthen.Goals as goal

@@ -1,7 +1,7 @@
 use Rattle.std.proofs.Common.{◌≡◌, ◌-◌, ◌<◌, ◌≤◌, length, true, is_some}
 use Rattle.fancy_code.specs.Attempt.{context_in}
 use Rattle.fancy_alphabet.specs.Classes.{IsStart}
-use Rattle.fancy_automaton.specs.Cells.{ways_at}
+use Rattle.fancy_states.specs.Cells.{ways_at}
 use Rattle.fancy_automaton.specs.Decided.{Decided, Goal, IsDecided, IsPlaced, Opens}
 use Rattle.fancy_automaton.proofs.follow.lengthen.Given as goal
 

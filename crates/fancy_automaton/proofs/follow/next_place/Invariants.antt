@@ -1,5 +1,5 @@
 use Rattle.std.proofs.Common.{◌+◌, ◌-◌, ◌<◌, ◌≤◌, ℕ}
-use Rattle.fancy_automaton.specs.Search.{Passes}
+use Rattle.fancy_states.specs.Search.{Passes}
 use Rattle.fancy_automaton.proofs.follow.next_place.Given as goal
 
 abbrev pub invariant-places : goal.invariant-places

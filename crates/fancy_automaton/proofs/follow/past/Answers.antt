@@ -2,7 +2,8 @@ use Rattle.std.proofs.Common.{List, ap, arith, get_or, replicate, length, Option
 use Rattle.fancy_alphabet.proofs.NumberLemmas.{seen_low}
 use Rattle.fancy_alphabet.specs.Sides.{seen_as}
 use Rattle.fancy_automaton.specs.declared.hop.Stand.{Stand}
-use Rattle.fancy_automaton.specs.Sole.{IsAt, IsSole, match_from, stood}
+use Rattle.fancy_automaton.specs.Sole.{IsAt, IsSole, stood}
+use Rattle.fancy_states.specs.Trail.{match_from}
 use Rattle.fancy_automaton.proofs.SoleLemmas.{reads, found_earlier, found_last}
 use Rattle.fancy_automaton.proofs.follow.past.Goals as goal
 use Rattle.fancy_automaton.proofs.follow.past.Goals.{in-Last, in-Earlier}

@@ -4,11 +4,11 @@ use Rattle.fancy_code.specs.Attempt.{context_in, may_end_in}
 use Rattle.fancy_alphabet.specs.Classes.{IsStart}
 use Rattle.fancy_automaton.specs.declared.hop.Stand.{Stand}
 use Rattle.std.proofs.lemmas.Option.{slice_get-get_or}
-use Rattle.fancy_automaton.specs.Cells.{row_if}
+use Rattle.fancy_states.specs.Cells.{row_if}
 use Rattle.fancy_automaton.specs.Front.{IsFront, found_of, front_at}
 use Rattle.fancy_alphabet.specs.Sides.{seen_as}
-use Rattle.fancy_automaton.specs.Trail.{found_in_trail, hit_or}
-use Rattle.fancy_automaton.proofs.CellLemmas.{row_within}
+use Rattle.fancy_states.specs.Trail.{found_in_trail, hit_or}
+use Rattle.fancy_states.proofs.CellLemmas.{row_within}
 use Rattle.fancy_automaton.proofs.HopLemmas.{ascii_leads, column_low, front_hopped, row_starts, start_after}
 use Rattle.fancy_alphabet.proofs.NumberLemmas.{seen_low}
 use Rattle.fancy_automaton.proofs.hop.run.Goals as goal

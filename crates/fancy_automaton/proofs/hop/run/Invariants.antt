@@ -1,11 +1,11 @@
 use Rattle.std.proofs.Common.{◌-◌, ◌+◌, ◌≡◌, ◌<◌, ◌≤◌, List, length, true}
 use Rattle.fancy_code.specs.Attempt.{context_in, may_end_in}
 use Rattle.fancy_alphabet.specs.Classes.{IsStart}
-use Rattle.fancy_automaton.specs.declared.cells.Cell.{Cell}
-use Rattle.fancy_automaton.specs.declared.trail.Trail.{Trail}
-use Rattle.fancy_automaton.specs.Cells.{row_if}
+use Rattle.fancy_states.specs.declared.cells.Cell.{Cell}
+use Rattle.fancy_states.specs.declared.trail.Trail.{Trail}
+use Rattle.fancy_states.specs.Cells.{row_if}
 use Rattle.fancy_automaton.specs.Front.{IsFront, front_at}
-use Rattle.fancy_automaton.specs.Trail.{found_in_trail}
+use Rattle.fancy_states.specs.Trail.{found_in_trail}
 use Rattle.fancy_automaton.proofs.hop.run.Given as goal
 
 abbrev pub invariant-places : goal.invariant-places

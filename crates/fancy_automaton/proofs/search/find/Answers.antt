@@ -3,13 +3,14 @@ use Rattle.fancy_input.specs.declared.span.Span.{Span}
 use Rattle.std.specs.Prelude.{min, if◌then◌else◌}
 use Rattle.fancy_input.specs.Requests.{positions}
 use Rattle.fancy_code.specs.Queries.{query_of, unfiltered, answer_with}
-use Rattle.fancy_code.specs.Reading.{search_context}
-use Rattle.fancy_code.specs.Search.{answer_from, search}
+use Rattle.fancy_meaning.specs.Reading.{search_context}
+use Rattle.fancy_meaning.specs.Search.{answer_from, search}
 use Rattle.fancy_prefilter.specs.Seen.{NoneMayStart}
-use Rattle.fancy_code.specs.declared.reading.SuppressedEnds.{SuppressedEnds}
+use Rattle.fancy_meaning.specs.declared.reading.SuppressedEnds.{SuppressedEnds}
 use Rattle.fancy_code.specs.declared.attempt.Attempt.{Attempt}
-use Rattle.fancy_code.proofs.PositionLemmas.{positions_none, search_over}
-use Rattle.fancy_automaton.specs.Search.{ends_in, ends_of}
+use Rattle.fancy_code.proofs.PositionLemmas.{positions_none}
+use Rattle.fancy_meaning.proofs.AttemptLemmas.{search_over}
+use Rattle.fancy_states.specs.Search.{ends_in, ends_of}
 use Rattle.fancy_automaton.proofs.AnswerLemmas.{IsWhole, Deep, begun, found_by_ends, whole_is, leftmost_is, starts_none}
 use Rattle.fancy_automaton.proofs.SteadyLemmas.{steady}
 use Rattle.fancy_automaton.proofs.search.find.Goals as goal

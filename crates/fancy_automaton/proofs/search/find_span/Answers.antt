@@ -1,12 +1,12 @@
 use Rattle.std.proofs.Common.{◌≡◌, ◌+◌, ◌∙◌, [], ℕ, None, Option, Some, ap, arith, option_map, refl, sym, true}
 use Rattle.std.specs.Prelude.{is_some}
-use Rattle.fancy_automaton.specs.Search.{ends_in}
-use Rattle.fancy_automaton.specs.Sole.{match_from}
+use Rattle.fancy_states.specs.Search.{ends_in}
+use Rattle.fancy_states.specs.Trail.{match_from}
 use Rattle.fancy_code.specs.CodeLength.{code_len}
-use Rattle.fancy_automaton.proofs.CellLemmas.{row_ways, row_within}
+use Rattle.fancy_states.proofs.CellLemmas.{row_ways, row_within}
 use Rattle.fancy_prefilter.proofs.NextLemmas.{starts_somewhere}
 use Rattle.fancy_automaton.proofs.GoingLemmas.{going_end, going_first, going_idle, going_over}
-use Rattle.fancy_automaton.proofs.CountLemmas.{counts_from}
+use Rattle.fancy_states.proofs.CountLemmas.{counts_from}
 use Rattle.fancy_automaton.proofs.search.find_span.Goals as goal
 
 match_found : (start : ℕ) (end : Option ℕ) → is_some end ≡ true → is_some (match_from start end) ≡ true

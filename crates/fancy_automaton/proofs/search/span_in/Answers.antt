@@ -1,7 +1,7 @@
 use Rattle.std.proofs.Common.{◌≡◌, ◌+◌, ◌-◌, Bool, Option, option_map, subst, sym, IfOk, ℕ}
 use Rattle.std.specs.Prelude.{if◌then◌else◌}
 use Rattle.fancy_input.specs.declared.span.Span.{Span}
-use Rattle.fancy_automaton.specs.Search.{BegunIn, ends_in, leftmost_in}
+use Rattle.fancy_states.specs.Search.{BegunIn, ends_in, leftmost_in}
 use Rattle.fancy_automaton.proofs.search.span_in.Goals as goal
 
 pub returns-then-anchored-clause-answer : goal.returns-then-anchored-clause-answer

@@ -1,10 +1,10 @@
 use Rattle.std.proofs.Common.{◌+◌, ◌∙◌, ap, arith, option_map}
-use Rattle.fancy_automaton.specs.Search.{ends_in}
+use Rattle.fancy_states.specs.Search.{ends_in}
 use Rattle.fancy_code.specs.CodeLength.{code_len}
-use Rattle.fancy_automaton.proofs.CellLemmas.{row_within}
+use Rattle.fancy_states.proofs.CellLemmas.{row_within}
 use Rattle.fancy_automaton.proofs.GoingLemmas.{going_end, going_over}
-use Rattle.fancy_automaton.proofs.TrailLemmas.{some_found}
-use Rattle.fancy_automaton.proofs.CountLemmas.{counts_more, counts_none, counts_up}
+use Rattle.fancy_states.proofs.TrailLemmas.{some_found}
+use Rattle.fancy_states.proofs.CountLemmas.{counts_more, counts_none, counts_up}
 use Rattle.fancy_automaton.proofs.search.trace.Goals as goal
 
 pub new-requires : goal.new-requires

@@ -1,6 +1,6 @@
 use Rattle.std.proofs.Common.{◌+◌, ◌-◌, ◌*◌, ◌≤◌}
 use Rattle.fancy_code.specs.CodeLength.{code_len}
-use Rattle.fancy_automaton.specs.Counts.{AddsSteps}
+use Rattle.fancy_states.specs.Counts.{AddsSteps}
 use Rattle.fancy_automaton.specs.Front.{IsFront}
 use Rattle.fancy_automaton.proofs.search.trace.Given as goal
 

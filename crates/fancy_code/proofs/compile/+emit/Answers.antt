@@ -11,7 +11,7 @@ use Rattle.fancy_tree.proofs.FittingLemmas.{exact_size}
 use Rattle.fancy_tree.proofs.PartLemmas.{parts_from, branches_from, last_part, no_parts, some_parts}
 use Rattle.fancy_code.specs.Emitted.{Appends, Emits, emitted, len_of}
 use Rattle.fancy_code.specs.Compile.{Emitted, BehindEmitted, Means, is_easy_instr}
-use Rattle.fancy_code.specs.Easy.{is_easy}
+use Rattle.fancy_meaning.specs.Easy.{is_easy}
 use Rattle.fancy_code.proofs.CodeLemmas.{keeps_on, keeps_same}
 use Rattle.fancy_code.proofs.CompileLemmas.{sizes_from, sequence_emitted, last_emits, choice_emits, group_emits, copies_emitted, optionals_emitted, repeat_emits, shared_emits, both_emit, atomic_emits, possessive_emits, ahead_emits, behind_emits, framed, framed_grows, empty_emits, condition_emitted, star_emitted, star_kept, back_emitted, nowhere_emitted, only_part, sequence_behind, last_behind, behind_choice_emitted, few_in_parts, few_in_branches, few_at, few_in_branch, nodes-conditional, branch_sizes, last_size}
 use Rattle.fancy_code.proofs.ClassifyLemmas.{easy_split, easy_written, easy-in_sequence, easy_at}

@@ -2,7 +2,7 @@ use Rattle.std.proofs.Common.{◌≡◌, true, All, IsTrue, ◌+◌, ◌*◌, �
 use Rattle.fancy_tree.specs.Pattern.{pattern_of, in_sequence, in_choice}
 use Rattle.fancy_tree.specs.Sizes.{nodes}
 use Rattle.fancy_code.specs.Compile.{StaysEasy, Emitted, BehindEmitted, CopiesEmitted, OptionalsEmitted}
-use Rattle.fancy_code.specs.Easy.{is_easy}
+use Rattle.fancy_meaning.specs.Easy.{is_easy}
 use Rattle.fancy_code.specs.Emitted.{Emits, emitted, len_of, Appends}
 use Rattle.fancy_code.proofs.compile.+emit.Given as goal
 

@@ -1,5 +1,5 @@
 use Rattle.std.proofs.Common.{◌∙◌, ◌==◌, eq-eqb, ne_eqb}
-use Rattle.fancy_code.proofs.ReadingLemmas.{no_item, an_item, other_item, low_character}
+use Rattle.fancy_meaning.proofs.ReadingLemmas.{no_item, an_item, other_item, low_character}
 use Rattle.fancy_code.proofs.step.past_character.Goals as goal
 
 pub returns-in_err-reading-clause-past : goal.returns-in_err-reading-clause-past

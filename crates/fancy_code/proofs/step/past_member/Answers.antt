@@ -1,7 +1,7 @@
 use Rattle.std.proofs.Common.{sym, ◌∙◌}
 use Rattle.fancy_tree.specs.Sets.{has}
 use Rattle.fancy_code.specs.Instructions.{edges_in}
-use Rattle.fancy_code.proofs.ReadingLemmas.{no_item, an_item, other_item}
+use Rattle.fancy_meaning.proofs.ReadingLemmas.{no_item, an_item, other_item}
 use Rattle.fancy_code.proofs.step.past_member.Goals as goal
 
 pub returns-in_err-reading-clause-past : goal.returns-in_err-reading-clause-past

@@ -1,5 +1,5 @@
 use Rattle.std.proofs.Common.{◌∙◌, eq-eqb, ne_eqb}
-use Rattle.fancy_code.proofs.ReadingLemmas.{byte_there, byte_past, no_byte, a_byte, other_byte}
+use Rattle.fancy_meaning.proofs.ReadingLemmas.{byte_there, byte_past, no_byte, a_byte, other_byte}
 use Rattle.fancy_code.proofs.step.past_raw_byte.Goals as goal
 
 pub returns-in_err-found-clause-past : goal.returns-in_err-found-clause-past

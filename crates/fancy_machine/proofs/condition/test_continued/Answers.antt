@@ -1,7 +1,7 @@
 use Rattle.std.proofs.Common.{refl, ap, ◌∙◌}
 use Rattle.fancy_code.specs.Instructions as i
 use Rattle.fancy_code.specs.Code.{instrs_of}
-use Rattle.fancy_code.specs.Context.{continues}
+use Rattle.fancy_meaning.specs.Context.{continues}
 use Rattle.fancy_machine.specs.Attempt.{attempt_context}
 use Rattle.fancy_machine.proofs.MachineSteps.{went_by}
 use Rattle.fancy_machine.proofs.condition.test_continued.Goals as goal

@@ -1,6 +1,6 @@
 use Rattle.std.proofs.Common.{refl, sym, ap, ◌∙◌}
 use Rattle.fancy_code.specs.Code.{instrs_of}
-use Rattle.fancy_code.specs.Context.{units_back}
+use Rattle.fancy_meaning.specs.Context.{units_back}
 use Rattle.fancy_machine.specs.Attempt.{attempt_context}
 use Rattle.fancy_machine.proofs.MachineSteps.{no_units, went_back}
 use Rattle.fancy_machine.proofs.read.go_back.Goals as goal

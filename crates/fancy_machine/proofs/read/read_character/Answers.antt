@@ -1,7 +1,7 @@
 use Rattle.std.proofs.Common.{◌==◌, refl, ap, ◌∙◌}
 use Rattle.fancy_code.specs.Instructions as i
 use Rattle.fancy_code.specs.Code.{instrs_of}
-use Rattle.fancy_code.specs.Context.{past_item}
+use Rattle.fancy_meaning.specs.Context.{past_item}
 use Rattle.fancy_machine.specs.Attempt.{attempt_context}
 use Rattle.fancy_machine.proofs.ContinuesLemmas.{item_seen, suppressed_of}
 use Rattle.fancy_machine.proofs.MachineSteps.{read_by}

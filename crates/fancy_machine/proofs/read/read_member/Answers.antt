@@ -1,7 +1,7 @@
 use Rattle.std.proofs.Common.{ℕ, Option, ap, subst, ◌∙◌}
 use Rattle.fancy_tree.specs.Sets.{has}
 use Rattle.fancy_code.specs.Instructions.{edges_in}
-use Rattle.fancy_code.specs.Context.{past_item}
+use Rattle.fancy_meaning.specs.Context.{past_item}
 use Rattle.fancy_machine.specs.Attempt.{attempt_context}
 use Rattle.fancy_machine.specs.Machine.{MovedTo}
 use Rattle.fancy_machine.proofs.ContinuesLemmas.{item_seen, suppressed_of}

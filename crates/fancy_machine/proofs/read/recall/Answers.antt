@@ -1,7 +1,7 @@
 use Rattle.std.proofs.Common.{Option, sym, ap, ◌∙◌}
 use Rattle.fancy_input.specs.declared.span.Span.{Span}
 use Rattle.fancy_code.specs.Code.{instrs_of}
-use Rattle.fancy_code.specs.Backreference.{past_span}
+use Rattle.fancy_meaning.specs.Backreference.{past_span}
 use Rattle.fancy_machine.specs.Attempt.{attempt_context}
 use Rattle.fancy_machine.proofs.RecallLemmas.{recall_seen}
 use Rattle.fancy_machine.proofs.MachineSteps.{recalled_by}

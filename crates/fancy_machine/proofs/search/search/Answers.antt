@@ -2,13 +2,14 @@ use Rattle.std.proofs.Common.{refl, ◌≡◌, ◌<◌, ◌≤◌, ℕ, suc, ◌
 use Rattle.fancy_input.specs.LastLines.{KnowsLastLines}
 use Rattle.fancy_input.specs.Requests.{positions, effective_start}
 use Rattle.fancy_code.specs.declared.code.Code.{Code}
-use Rattle.fancy_code.specs.declared.options.SearchOptions.{SearchOptions}
+use Rattle.fancy_meaning.specs.declared.options.SearchOptions.{SearchOptions}
 use Rattle.fancy_input.specs.Work.{IsWithin}
-use Rattle.fancy_code.specs.Events.{marks_in, returns_in}
-use Rattle.fancy_code.specs.Search.{answer_from, gone_from}
-use Rattle.fancy_code.proofs.AttemptLemmas.{found_here, found_later}
-use Rattle.fancy_code.proofs.PositionLemmas.{search_over, positions_none, positions_some}
-use Rattle.fancy_code.specs.Tried.{tried}
+use Rattle.fancy_meaning.specs.Events.{marks_in, returns_in}
+use Rattle.fancy_meaning.specs.Search.{answer_from, gone_from}
+use Rattle.fancy_meaning.proofs.AttemptLemmas.{found_here, found_later}
+use Rattle.fancy_code.proofs.PositionLemmas.{positions_none, positions_some}
+use Rattle.fancy_meaning.proofs.AttemptLemmas.{search_over}
+use Rattle.fancy_meaning.specs.Tried.{tried}
 use Rattle.fancy_machine.proofs.MachineSearch.{asked_request, is_asked, gone_hit, gone_more, gone_counts, gone_over}
 use Rattle.fancy_prices.specs.declared.splits.Splits.{Splits}
 use Rattle.fancy_prices.specs.Entries.{AreEntries, is_entry}

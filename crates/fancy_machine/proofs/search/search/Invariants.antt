@@ -1,9 +1,9 @@
 use Rattle.std.proofs.Common.{◌≡◌, ◌+◌, ◌-◌, ◌≤◌, true}
-use Rattle.fancy_code.specs.Events.{marks_in, returns_in}
-use Rattle.fancy_code.specs.Search.{search, returns, choices, answer_from, gone_from}
+use Rattle.fancy_meaning.specs.Events.{marks_in, returns_in}
+use Rattle.fancy_meaning.specs.Search.{search, returns, choices, answer_from, gone_from}
 use Rattle.fancy_input.specs.Requests.{effective_start}
 use Rattle.fancy_input.specs.Work.{steps_of, returns_of, IsWithin}
-use Rattle.fancy_code.specs.Tried.{tried, NoneTried}
+use Rattle.fancy_meaning.specs.Tried.{tried, NoneTried}
 use Rattle.fancy_machine.specs.Asked.{HeedsLimit}
 use Rattle.fancy_machine.specs.Attempt.{KnowsSeen}
 use Rattle.fancy_machine.specs.Parts.{KeepsCounts}

@@ -1,5 +1,5 @@
 use Rattle.std.proofs.Common.{◌≡◌, ℕ, ◌∙◌, true, false, replicate, Some, Err, refl, sym, ap, ap₂, arith}
-use Rattle.fancy_code.specs.Events.{returns_in}
+use Rattle.fancy_meaning.specs.Events.{returns_in}
 use Rattle.fancy_code.specs.Thread.{empty_slot}
 use Rattle.fancy_machine.specs.Layers.{spot_of}
 use Rattle.fancy_machine.proofs.MachineSearch.{admits, admits_is, begun_from, nothing_admitted, nothing_here, taken_here, missed_here}

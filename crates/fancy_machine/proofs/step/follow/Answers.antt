@@ -8,7 +8,7 @@ use Rattle.fancy_code.specs.declared.code.Instr.{Instr}
 use Rattle.fancy_code.specs.declared.step.Next.{Next}
 use Rattle.fancy_code.specs.Instructions as i
 use Rattle.fancy_code.specs.Code.{instrs_of, instr_in, set_edges}
-use Rattle.fancy_code.specs.Context.{past_item}
+use Rattle.fancy_meaning.specs.Context.{past_item}
 use Rattle.fancy_code.specs.Run.{Raw, Stop, instr_at}
 use Rattle.fancy_code.proofs.InstructionLemmas.{length-instrs_of}
 use Rattle.fancy_code.proofs.RunMore.{past_end}

@@ -1,7 +1,7 @@
 use Rattle.std.proofs.Common.{ℕ, List, drop, sym, ap, ◌∙◌}
 use Rattle.std.specs.Prelude.{slice_index}
 use Rattle.fancy_tree.specs.declared.tree.Meaning.TheVariants.{Unicode}
-use Rattle.fancy_code.specs.Backreference.{past_characters}
+use Rattle.fancy_meaning.specs.Backreference.{past_characters}
 use Rattle.fancy_machine.specs.Attempt.{reading}
 use Rattle.fancy_machine.proofs.ContinuesLemmas.{byte_seen, suppressed_of}
 use Rattle.fancy_machine.proofs.RecallLemmas.{character_stops, character_leads, byte_stops, byte_leads, nothing_left, something_left, none_left}

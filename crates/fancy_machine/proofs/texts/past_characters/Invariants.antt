@@ -1,7 +1,7 @@
 use Rattle.std.proofs.Common.{◌≡◌, length}
 use Rattle.fancy_tree.specs.declared.tree.Meaning.TheVariants.{Unicode}
-use Rattle.fancy_code.specs.Backreference.{past_characters}
-use Rattle.fancy_code.specs.Context.{Context}
+use Rattle.fancy_meaning.specs.Backreference.{past_characters}
+use Rattle.fancy_meaning.specs.Context.{Context}
 use Rattle.fancy_machine.specs.Attempt.{reading}
 use Rattle.fancy_machine.proofs.texts.past_characters.Given as goal
 

@@ -1,6 +1,6 @@
 use Rattle.std.proofs.Common.{◌+◌, Bool, length, Some, None, sym, ap, ◌∙◌}
 use Rattle.std.specs.Prelude.{if◌then◌else◌}
-use Rattle.fancy_code.specs.Backreference.{past_text}
+use Rattle.fancy_meaning.specs.Backreference.{past_text}
 use Rattle.fancy_machine.proofs.RecallLemmas.{stands_if}
 use Rattle.fancy_machine.proofs.texts.past_text.Goals as goal
 

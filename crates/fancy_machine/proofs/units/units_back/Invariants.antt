@@ -1,5 +1,5 @@
 use Rattle.std.proofs.Common.{◌≡◌, ◌-◌}
-use Rattle.fancy_code.specs.Context.{Context, units_back}
+use Rattle.fancy_meaning.specs.Context.{Context, units_back}
 use Rattle.fancy_machine.specs.Attempt.{reading}
 use Rattle.fancy_machine.proofs.units.units_back.Given as goal
 

@@ -1,5 +1,5 @@
 use Rattle.std.proofs.Common.{ltb-true}
-use Rattle.fancy_code.proofs.ReadingLemmas.{low_unit}
+use Rattle.fancy_meaning.proofs.ReadingLemmas.{low_unit}
 use Rattle.fancy_prices.proofs.splits.is_alone.Goals as goal
 
 pub returns-in-Unicode : goal.returns-in-Unicode

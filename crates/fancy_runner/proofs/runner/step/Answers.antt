@@ -7,7 +7,7 @@ use Rattle.fancy_code.specs.Instructions.{Character, Member, RawByte, Split, Ope
 use Rattle.fancy_code.specs.Attempt.{context_in, instrs_in}
 use Rattle.fancy_runner.specs.Attempt.{held_in, current_in, saved_in}
 use Rattle.fancy_code.specs.Code.{instr_in, set_edges}
-use Rattle.fancy_code.specs.Context.{State, past_item, past_byte}
+use Rattle.fancy_meaning.specs.Context.{State, past_item, past_byte}
 use Rattle.fancy_code.specs.Run.{Note, fetched, before, onward, run, instr_at}
 use Rattle.fancy_code.specs.Thread.{Thread, state_of, starts_of, empty_slot, slot_from}
 use Rattle.fancy_runner.specs.Threads.{thread_of}

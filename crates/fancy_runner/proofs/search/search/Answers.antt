@@ -2,17 +2,18 @@ use Rattle.std.proofs.Common.{◌+◌, ◌-◌, ◌≤◌, ℕ, true, Some, leng
 use Rattle.std.specs.Prelude.{Option, is_some}
 use Rattle.fancy_input.specs.Requests.{effective_start, positions}
 use Rattle.fancy_runner.specs.declared.notes.KeptTable.{KeptTable}
-use Rattle.fancy_code.specs.declared.reading.SuppressedEnds.{SuppressedEnds}
+use Rattle.fancy_meaning.specs.declared.reading.SuppressedEnds.{SuppressedEnds}
 use Rattle.fancy_code.specs.Code.{instrs_of, due_of, owed_of}
 use Rattle.fancy_code.specs.Queries.{query_of, unfiltered}
-use Rattle.fancy_code.specs.Reading.{search_context}
-use Rattle.fancy_code.specs.Search.{answer_from, is_match_boundary}
+use Rattle.fancy_meaning.specs.Reading.{search_context}
+use Rattle.fancy_meaning.specs.Search.{answer_from, is_match_boundary}
 use Rattle.fancy_input.specs.Work.{steps_of}
 use Rattle.fancy_code.specs.Compile.{depth}
 use Rattle.fancy_runner.specs.KeptTable.{table_in, marks_from, base_of, steps_ahead}
 use Rattle.fancy_code.proofs.MarkingLemmas.{later_starts}
 use Rattle.fancy_runner.proofs.KeptTableLemmas.{failed_later, told_later, kept_begins, kept_reached, kept_room, kept_small, kept_last_lines, kept_failed, kept_after, ahead_ready, ahead_after, fewer_ahead, again_paid}
-use Rattle.fancy_code.proofs.PositionLemmas.{deep, attempt_known, attempt_answer, search_hit, search_miss, search_skip, search_over, positions_none, first_thread}
+use Rattle.fancy_code.proofs.PositionLemmas.{deep, attempt_known, attempt_answer, search_skip, positions_none, first_thread}
+use Rattle.fancy_meaning.proofs.AttemptLemmas.{search_hit, search_miss, search_over}
 use Rattle.fancy_code.proofs.PassedLemmas.{openings_passed}
 use Rattle.fancy_input.proofs.WorkLemmas.{runs_on}
 use Rattle.fancy_runner.proofs.RunLemmas.{worked_none, worked_now}

@@ -8,7 +8,7 @@ use Rattle.fancy_runner.specs.KeptTable.{table_in, steps_from, taken_again}
 use Rattle.fancy_runner.specs.Runs.{Worked}
 use Rattle.fancy_input.specs.Requests.{effective_start}
 use Rattle.fancy_prefilter.specs.Seen.{NoneMayStart}
-use Rattle.fancy_code.specs.Search.{search, answer_from}
+use Rattle.fancy_meaning.specs.Search.{search, answer_from}
 use Rattle.fancy_input.specs.Work.{steps_of}
 use Rattle.fancy_runner.proofs.search.search.Given as goal
 

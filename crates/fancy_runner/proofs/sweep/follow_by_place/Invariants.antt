@@ -1,6 +1,6 @@
 use Rattle.std.proofs.Common.{ℕ, ◌+◌, ◌≤◌, Option}
 use Rattle.fancy_runner.specs.Attempt.{ahead_in, threads_in, stack_in, RunningIn}
-use Rattle.fancy_code.specs.Context.{State}
+use Rattle.fancy_meaning.specs.Context.{State}
 use Rattle.fancy_runner.specs.Runner.{AllWithin}
 use Rattle.fancy_runner.specs.Sweep.{SweepingIn}
 use Rattle.fancy_runner.specs.Sweeps.{left_in_sweep, found_in, WaitsFrom}

@@ -3,7 +3,7 @@ use Rattle.std.specs.Prelude.{reverse}
 use Rattle.fancy_runner.specs.Attempt.{owed_in, ahead_in, saved_in, threads_in}
 use Rattle.fancy_code.specs.Code.{due_of}
 use Rattle.fancy_runner.specs.Runner.{burden}
-use Rattle.fancy_code.specs.Context.{State}
+use Rattle.fancy_meaning.specs.Context.{State}
 use Rattle.fancy_runner.specs.Runner.{AllWithin}
 use Rattle.fancy_runner.specs.Sweep.{AllPast, AllAt, SweepingIn}
 use Rattle.fancy_code.specs.Thread.{Thread}

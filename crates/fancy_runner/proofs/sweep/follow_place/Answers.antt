@@ -1,6 +1,6 @@
 use Rattle.std.proofs.Common.{rules, ◌+◌, ◌++◌, List, Option, sym, ap, subst, arith}
 use Rattle.fancy_runner.specs.Runner.{burden}
-use Rattle.fancy_code.specs.Context.{State}
+use Rattle.fancy_meaning.specs.Context.{State}
 use Rattle.fancy_runner.specs.Runner.{AllWithin}
 use Rattle.fancy_runner.specs.Sweep.{AreRising, SweepingIn}
 use Rattle.fancy_runner.specs.Sweeps.{backlog_in, left_in_sweep, found_in}

@@ -2,7 +2,7 @@ use Rattle.std.proofs.Common.{ℕ, ◌≡◌, ◌+◌, ◌≤◌, ◌⊎◌, ◌
 use Rattle.std.specs.Prelude.{Some, reverse}
 use Rattle.fancy_runner.specs.Attempt.{owed_in}
 use Rattle.fancy_runner.specs.Runner.{burden}
-use Rattle.fancy_code.specs.Context.{State}
+use Rattle.fancy_meaning.specs.Context.{State}
 use Rattle.fancy_runner.specs.Runner.{AllWithin}
 use Rattle.fancy_runner.specs.Sweep.{AllPast, SweepingIn}
 use Rattle.fancy_runner.specs.Sweeps.{found_in, due_in_rows, KeepsBacklog}

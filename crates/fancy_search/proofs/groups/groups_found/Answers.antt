@@ -1,7 +1,7 @@
 use Rattle.std.proofs.Common.{◌≡◌, ◌≤◌, ◌==◌, ◌∙◌, ◌++◌, ◌∷◌, [], ℕ, Bool, true, false, Some, if◌then◌else◌, refl, sym, ap, ap₂, arith, eqb-true}
 use Rattle.std.proofs.lemmas.List.FromFn.{map-range_with_len_more}
-use Rattle.fancy_code.specs.Context.{group_span}
-use Rattle.fancy_code.specs.Search.{Answer, span_of}
+use Rattle.fancy_meaning.specs.Context.{group_span}
+use Rattle.fancy_meaning.specs.Search.{Answer, span_of}
 use Rattle.fancy_search.specs.Groups.{span_of_group}
 use Rattle.fancy_search.specs.Cached.{found_at}
 use Rattle.fancy_search.proofs.groups.groups_found.Goals as goal

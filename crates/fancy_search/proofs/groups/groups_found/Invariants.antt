@@ -1,5 +1,5 @@
 use Rattle.std.proofs.Common.{◌≡◌, ◌∷◌, Some}
-use Rattle.fancy_code.specs.Search.{span_of}
+use Rattle.fancy_meaning.specs.Search.{span_of}
 use Rattle.fancy_search.specs.Groups.{spans_of}
 use Rattle.fancy_search.specs.Cached.{found_at}
 use Rattle.fancy_search.proofs.groups.groups_found.Given as goal

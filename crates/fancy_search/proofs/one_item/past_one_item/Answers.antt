@@ -1,11 +1,11 @@
 use Rattle.std.proofs.Common.{ℕ, List, false, sym, ap, subst, ◌≡◌, ◌∙◌, ◌==◌}
 use Rattle.fancy_tree.specs.Sets.{has}
 use Rattle.fancy_code.specs.Code.{instr_in, set_edges}
-use Rattle.fancy_code.specs.Context.{Context, past_item}
+use Rattle.fancy_meaning.specs.Context.{Context, past_item}
 use Rattle.fancy_code.specs.Instructions.{Instruction}
-use Rattle.fancy_code.specs.Reading.{search_context}
+use Rattle.fancy_meaning.specs.Reading.{search_context}
 use Rattle.fancy_code.specs.declared.code.Code.{Code}
-use Rattle.fancy_code.specs.declared.reading.SuppressedEnds.{SuppressedEnds}
+use Rattle.fancy_meaning.specs.declared.reading.SuppressedEnds.{SuppressedEnds}
 use Rattle.fancy_search.specs.OneItem.{ReadsOne}
 use Rattle.fancy_search.proofs.OneItemLemmas.{same_item, same_byte}
 use Rattle.fancy_search.proofs.one_item.past_one_item.Goals as goal

@@ -1,5 +1,5 @@
 use Rattle.std.proofs.Common.{arith, refl}
-use Rattle.fancy_automaton.proofs.CellLemmas.{row_within}
+use Rattle.fancy_states.proofs.CellLemmas.{row_within}
 use Rattle.fancy_automaton.proofs.front.Front.advance.Goals as goal
 
 pub make_place-requires : goal.make_place-requires

@@ -1,6 +1,6 @@
 use Rattle.std.proofs.Common.{List, ap, ◌∙◌}
-use Rattle.fancy_automaton.specs.declared.cells.Cell.{Cell}
-use Rattle.fancy_automaton.specs.Trail.{found_in_trail}
+use Rattle.fancy_states.specs.declared.cells.Cell.{Cell}
+use Rattle.fancy_states.specs.Trail.{found_in_trail}
 use Rattle.fancy_automaton.proofs.front.Front.end.Goals as goal
 
 pub returns-clause-found : goal.returns-clause-found

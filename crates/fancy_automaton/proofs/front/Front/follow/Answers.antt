@@ -1,5 +1,5 @@
 use Rattle.std.proofs.Common.{arith, rules}
-use Rattle.fancy_automaton.proofs.CellLemmas.{row_within}
+use Rattle.fancy_states.proofs.CellLemmas.{row_within}
 use Rattle.fancy_automaton.proofs.front.Front.follow.Goals as goal
 
 pub rest-requires : goal.rest-requires

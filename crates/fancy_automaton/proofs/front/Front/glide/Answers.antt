@@ -1,5 +1,5 @@
 use Rattle.std.proofs.Common.{◌≡◌, ◌∙◌, ap, arith, length, rules}
-use Rattle.fancy_automaton.specs.Trail.{hit_or}
+use Rattle.fancy_states.specs.Trail.{hit_or}
 use Rattle.fancy_automaton.proofs.FrontLemmas.{front_advanced, front_on}
 use Rattle.fancy_automaton.proofs.front.Front.glide.Goals as goal
 

@@ -1,6 +1,6 @@
 use Rattle.std.proofs.Common.{refl, subst, sym}
 use Rattle.fancy_code.specs.declared.code.Code.{Code}
-use Rattle.fancy_automaton.specs.Cells.{HasRows}
+use Rattle.fancy_states.specs.Cells.{HasRows}
 use Rattle.fancy_automaton.specs.Front.{ways_of}
 use Rattle.fancy_automaton.proofs.FrontLemmas.{front_restarted}
 use Rattle.fancy_automaton.proofs.front.Front.make_place.Goals as goal

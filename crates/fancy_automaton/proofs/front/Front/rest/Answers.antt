@@ -3,7 +3,7 @@ use Rattle.std.specs.Prelude.{slice_get}
 use Rattle.std.specs.Global.{Vec}
 use Rattle.std.specs.Vec.{vec_len}
 use Rattle.std.proofs.lemmas.Option.{slice_get-get_or}
-use Rattle.fancy_automaton.specs.Cells.{items_or}
+use Rattle.fancy_states.specs.Cells.{items_or}
 use Rattle.fancy_automaton.proofs.SoleLemmas.{filled, front_sole}
 use Rattle.fancy_automaton.proofs.front.Front.rest.Goals as goal
 

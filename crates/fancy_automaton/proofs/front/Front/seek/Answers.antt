@@ -1,9 +1,9 @@
 use Rattle.std.proofs.Common.{◌∙◌, ap, length}
 use Rattle.fancy_automaton.specs.Front.{starts_of}
-use Rattle.fancy_automaton.proofs.CellLemmas.{row_within}
+use Rattle.fancy_states.proofs.CellLemmas.{row_within}
 use Rattle.fancy_automaton.proofs.FrontLemmas.{front_waits}
 use Rattle.fancy_automaton.proofs.GoingLemmas.{going_idle}
-use Rattle.fancy_automaton.proofs.SearchLemmas.{no_items}
+use Rattle.fancy_states.proofs.SearchLemmas.{no_items}
 use Rattle.fancy_automaton.proofs.front.Front.seek.Goals as goal
 
 pub has_waiting-requires : goal.has_waiting-requires

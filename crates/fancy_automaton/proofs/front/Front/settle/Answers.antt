@@ -1,6 +1,6 @@
 use Rattle.std.proofs.Common.{List, ap, option_map, refl, ◌∙◌}
-use Rattle.fancy_automaton.specs.declared.cells.Cell.{Cell}
-use Rattle.fancy_automaton.specs.Trail.{found_in_trail, known_hit, starts_in}
+use Rattle.fancy_states.specs.declared.cells.Cell.{Cell}
+use Rattle.fancy_states.specs.Trail.{found_in_trail, known_hit, starts_in}
 use Rattle.fancy_automaton.proofs.FrontLemmas.{front_settled}
 use Rattle.fancy_automaton.proofs.front.Front.settle.Goals as goal
 

@@ -1,5 +1,5 @@
 use Rattle.std.proofs.Common.{arith}
-use Rattle.fancy_automaton.proofs.CellLemmas.{row_within}
+use Rattle.fancy_states.proofs.CellLemmas.{row_within}
 use Rattle.fancy_automaton.proofs.FrontLemmas.{front_waits}
 use Rattle.fancy_automaton.proofs.front.Front.skim.Goals as goal
 

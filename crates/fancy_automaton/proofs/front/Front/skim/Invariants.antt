@@ -1,6 +1,6 @@
 use Rattle.std.proofs.Common.{◌+◌, ◌-◌, ◌≤◌, length}
 use Rattle.fancy_automaton.specs.Front.{Stands}
-use Rattle.fancy_automaton.specs.Trail.{most_visits}
+use Rattle.fancy_states.specs.Trail.{most_visits}
 use Rattle.fancy_automaton.proofs.front.Front.skim.Given as goal
 
 abbrev pub invariant-places : goal.invariant-places

@@ -1,7 +1,7 @@
 use Rattle.std.proofs.Common.{◌≡◌, ◌∙◌, List, ap, length, replicate, subst, sym}
-use Rattle.fancy_automaton.specs.declared.cells.Cell.{Cell}
-use Rattle.fancy_automaton.specs.Sole.{match_from}
-use Rattle.fancy_automaton.specs.Trail.{end_of, found_in_trail, starts_in}
+use Rattle.fancy_states.specs.declared.cells.Cell.{Cell}
+use Rattle.fancy_states.specs.Trail.{match_from}
+use Rattle.fancy_states.specs.Trail.{end_of, found_in_trail, starts_in}
 use Rattle.fancy_automaton.proofs.SoleLemmas.{sole_front}
 use Rattle.fancy_automaton.proofs.front.Front.sole.Goals as goal
 use Rattle.fancy_automaton.proofs.front.Front.sole.Goals.{in-None, in-Some}

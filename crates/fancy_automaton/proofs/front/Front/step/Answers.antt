@@ -1,5 +1,5 @@
 use Rattle.std.proofs.Common.{◌≡◌, ◌∙◌, ap, arith, length}
-use Rattle.fancy_automaton.specs.Trail.{hit_or}
+use Rattle.fancy_states.specs.Trail.{hit_or}
 use Rattle.fancy_automaton.proofs.FrontLemmas.{front_advanced}
 use Rattle.fancy_automaton.proofs.front.Front.step.Goals as goal
 

@@ -1,5 +1,5 @@
 use Rattle.std.proofs.Common.{List, ap, ◌∙◌, get_or, is_some}
-use Rattle.fancy_code.specs.Context.{group_span}
+use Rattle.fancy_meaning.specs.Context.{group_span}
 use Rattle.fancy_code.specs.Thread.{slot_span}
 use Rattle.fancy_machine.specs.declared.log.Cell.{Cell}
 use Rattle.fancy_machine.specs.Frames.{Held}

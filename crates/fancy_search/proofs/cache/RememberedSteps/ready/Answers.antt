@@ -1,4 +1,4 @@
-use Rattle.fancy_automaton.proofs.RememberedLemmas.{remembers}
+use Rattle.fancy_states.proofs.RememberedLemmas.{remembers}
 use Rattle.fancy_search.proofs.cache.RememberedSteps.ready.Goals as goal
 
 pub returns-then-not-matches-clause-all : goal.returns-then-not-matches-clause-all

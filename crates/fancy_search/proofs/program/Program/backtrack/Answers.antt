@@ -1,7 +1,7 @@
 use Rattle.std.proofs.Common.{◌≡◌, ◌+◌, ◌<◌, ◌≤◌, ℕ, Err, refl, sym, ap, subst, arith, ◌∙◌}
 use Rattle.std.proofs.Math.Logic.{∥∥₁_elim, ∥∥₁_prop}
 use Rattle.fancy_code.specs.Compile.{IsCodeOf}
-use Rattle.fancy_code.specs.Search.{returns, choices}
+use Rattle.fancy_meaning.specs.Search.{returns, choices}
 use Rattle.fancy_input.specs.Work.{returns_of}
 use Rattle.fancy_search.specs.Programs.{query_in, program_pattern, program_limit, program_stack_limit}
 use Rattle.fancy_search.proofs.RefusalLemmas.{refuses_hard, stopped_by}

@@ -1,4 +1,4 @@
-use Rattle.fancy_automaton.proofs.PlainLemmas.{plain_by}
+use Rattle.fancy_states.proofs.PlainLemmas.{plain_by}
 use Rattle.fancy_search.proofs.program.Program.can_follow.Goals as goal
 
 pub returns-clause-plain : goal.returns-clause-plain

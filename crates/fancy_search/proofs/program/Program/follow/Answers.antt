@@ -1,5 +1,5 @@
 use Rattle.std.proofs.Common.{◌≡◌, ◌∙◌, Bool, sym, true≢false, arith}
-use Rattle.fancy_automaton.proofs.RememberedLemmas.{remembers, recalls}
+use Rattle.fancy_states.proofs.RememberedLemmas.{remembers, recalls}
 use Rattle.fancy_input.proofs.WorkLemmas.{runs_all}
 use Rattle.fancy_search.specs.Programs.{program_step_limit}
 use Rattle.fancy_search.specs.SearchCounts.{step_bound}

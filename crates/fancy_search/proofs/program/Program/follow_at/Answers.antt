@@ -3,7 +3,7 @@ use Rattle.std.specs.Box.{with_value}
 use Rattle.fancy_search.specs.declared.cache.AttemptNotes.{AttemptNotes}
 use Rattle.fancy_code.specs.declared.found.Found.{Found}
 use Rattle.fancy_code.specs.Queries.{answer_with}
-use Rattle.fancy_code.specs.Search.{attempt}
+use Rattle.fancy_meaning.specs.Search.{attempt}
 use Rattle.fancy_search.specs.KeptTables.{KeepsNotes, kept_from}
 use Rattle.fancy_search.specs.Programs.{query_in}
 use Rattle.fancy_search.specs.SearchCounts.{RefusesEasy}

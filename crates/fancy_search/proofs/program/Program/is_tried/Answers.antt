@@ -1,5 +1,5 @@
 use Rattle.std.proofs.Common.{◌≡◌, sym, ap, ◌∙◌, true}
-use Rattle.fancy_code.specs.Tried.{may_begin}
+use Rattle.fancy_meaning.specs.Tried.{may_begin}
 use Rattle.fancy_search.specs.Programs.{query_in}
 use Rattle.fancy_search.specs.Starts.{may_start}
 use Rattle.fancy_search.proofs.SearchedLemmas.{lacking_as_told}

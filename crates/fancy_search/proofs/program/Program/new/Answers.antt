@@ -1,7 +1,7 @@
 use Rattle.std.proofs.Common.{rules, refl, sym, ◌∙◌, ◌+◌, ap, subst, inl, inr, arith}
 use Rattle.fancy_syntax.specs.Dialect.{DialectOptions}
 use Rattle.fancy_tree.specs.GroupNames.{names_of}
-use Rattle.fancy_automaton.proofs.PlainLemmas.{plain_is}
+use Rattle.fancy_states.proofs.PlainLemmas.{plain_is}
 use Rattle.fancy_search.specs.Compiled.{IsSpelled}
 use Rattle.fancy_search.specs.Options.{is_easy_under}
 use Rattle.fancy_search.proofs.ReadingLemmas.{spelled_in, read_as}

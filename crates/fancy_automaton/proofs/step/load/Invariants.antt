@@ -1,6 +1,0 @@
-use Rattle.std.proofs.Common.{◌≡◌, drop, reverse}
-use Rattle.fancy_automaton.specs.Steps.{waiting}
-use Rattle.fancy_automaton.proofs.step.load.Given as goal
-
-abbrev pub invariant-loop-from : goal.invariant-loop-from
-invariant-loop-from l = reverse l.stack.items ≡ waiting l.from (drop l.from l.ways)

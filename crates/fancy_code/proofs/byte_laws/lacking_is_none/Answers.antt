@@ -1,5 +1,0 @@
-use Rattle.fancy_code.proofs.SkipLemmas.{lacking_is_none}
-use Rattle.fancy_code.proofs.byte_laws.lacking_is_none.Goals as goal
-
-pub returns : goal.returns
-returns c = lacking_is_none

@@ -1,5 +1,0 @@
-use Rattle.fancy_code.proofs.SearchLemmas.{answer-is}
-use Rattle.fancy_code.proofs.laws.answer_is_least_and_first.Goals as goal
-
-pub returns : goal.returns
-returns c = answer-is

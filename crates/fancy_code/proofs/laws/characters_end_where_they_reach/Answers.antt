@@ -1,5 +1,0 @@
-use Rattle.fancy_code.proofs.ReachLemmas.{reaches_of, ends_of}
-use Rattle.fancy_code.proofs.laws.characters_end_where_they_reach.Goals as goal
-
-pub returns : goal.returns
-returns c haystack p d = (reaches_of haystack p d, ends_of haystack p d)

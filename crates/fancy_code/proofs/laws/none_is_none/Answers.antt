@@ -1,5 +1,0 @@
-use Rattle.fancy_code.proofs.SearchLemmas.{none-is_none}
-use Rattle.fancy_code.proofs.laws.none_is_none.Goals as goal
-
-pub returns : goal.returns
-returns c = none-is_none

@@ -1,6 +1,0 @@
-use Rattle.std.proofs.Common.{◌∙◌}
-use Rattle.fancy_code.proofs.WordCharacters.{unicode_word}
-use Rattle.fancy_code.proofs.reading.is_unicode_word.Goals as goal
-
-pub returns : goal.returns
-returns c = c.is_word_code.ensures ∙ unicode_word c.args.c c.ranges.c.0

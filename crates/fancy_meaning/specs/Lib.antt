@@ -1,0 +1,16 @@
+pub mod Context
+pub mod Events
+pub mod Backreference
+pub mod Trace
+pub mod Search
+pub mod Literals
+pub mod Reading
+pub mod Easy
+pub mod Answers
+pub mod Forward
+pub mod Stands
+pub mod Tried
+pub mod Placed
+pub mod Laws
+pub mod Examples
+pub mod ByteLaws

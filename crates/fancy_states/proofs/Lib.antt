@@ -1,0 +1,14 @@
+pub mod MarkLemmas
+pub mod CountLemmas
+pub mod TurnLemmas
+pub mod ClosingLemmas
+pub mod StepLemmas
+pub mod FutureLemmas
+pub mod PlainLemmas
+pub mod JoinLemmas
+pub mod SearchLemmas
+pub mod UntouchedLemmas
+pub mod CellLemmas
+pub mod TrailLemmas
+pub mod TransitionLemmas
+pub mod RememberedLemmas

@@ -1,0 +1,198 @@
+-- The table of a search.
+use Rattle.std.proofs.Common.{◌≡◌, ℕ, ◌+◌, ◌*◌, ◌/◌, ◌<◌, ◌≤◌, ◌⊎◌, inl, inr, [], ◌∷◌, ◌++◌, List, Option, Some, refl, sym, ap, ap₂, ◌∙◌, subst, arith, length, get_or, set}
+use Rattle.std.specs.Prelude.{slice_get}
+use Rattle.std.proofs.lemmas.Bool.Decides.{eqb_tells}
+use Rattle.std.proofs.lemmas.List.{get_or-set_same, get_or-set_other, length-append}
+use Rattle.std.proofs.lemmas.Option.{slice_get_cases}
+use Rattle.fancy_states.specs.declared.cells.Cell.{Cell}
+use Rattle.fancy_states.specs.declared.transitions.Transition.{Transition}
+use Rattle.fancy_states.specs.declared.transitions.Entry.{Entry}
+use Rattle.fancy_states.specs.declared.transitions.Entry.TheVariants.{Unknown, Quiet, Matching}
+use Rattle.fancy_states.specs.declared.transitions.Transitions.{Transitions}
+use Rattle.fancy_alphabet.specs.declared.classes.Classes.{Classes}
+use Rattle.std.proofs.lemmas.Nat.{div-mul-add}
+use Rattle.fancy_alphabet.specs.Classes.{IsColumn, first_of, member_of, member_or, row_start, sight_for, sight_of}
+use Rattle.fancy_alphabet.specs.Sides.{number_of, sides_of}
+use Rattle.fancy_alphabet.specs.declared.side.Side.{Side}
+use Rattle.fancy_alphabet.specs.declared.sight.Sight.{Sight}
+use Rattle.fancy_alphabet.proofs.NumberLemmas.{number_same}
+use Rattle.std.proofs.Math.Nat.{mul-le-mul_right}
+use Rattle.fancy_code.specs.declared.code.Code.{Code}
+use Rattle.fancy_code.specs.Code.{instrs_of}
+use Rattle.fancy_alphabet.specs.Classes.{AreClasses}
+use Rattle.fancy_states.specs.declared.cells.Cells.{Cells}
+use Rattle.fancy_states.specs.Cells.{GrowsBy, HasPlace, HoldsFor, IsCell, IsFor, KeepsCells}
+use Rattle.fancy_states.proofs.CellLemmas.{cells_more, grown}
+use Rattle.fancy_states.specs.Transitions.{AreTold, IsEntry, IsTransition, entry_at}
+
+other_part : (p q a b w : ℕ) → p ≡ q → p * w + a ≡ q * w + b → a ≡ b
+other_part p q a b w e f =
+    let g : p * w ≡ q * w = ap (λ (n : ℕ). n * w) e in
+    omega (arith, f, g)
+
+-- what the table has of a row and a column
+pub told_entry : (cells : List Cell) (table : Transitions) (row column : ℕ) (sight : Sight) (e : Entry) → AreTold cells table → IsColumn table.classes sight column
+    → e ≡ entry_at table row column → IsEntry table.classes cells row sight e
+told_entry cells table row column sight Unknown told is e = tt
+told_entry cells table row column sight (Quiet t) told is e = told.quiet row column sight t is (sym e)
+told_entry cells table row column sight (Matching t) told is e = told.matching row column sight t is (sym e)
+
+-- more cells
+module _ (cells later : List Cell) (grown : KeepsCells cells later) (longer : length cells ≤ length later) where
+  stays : (k : ℕ) → k < length cells → (c : Cell) → slice_get later k ≡ Some c → slice_get cells k ≡ Some c
+  stays k lt c e =
+      elim (slice_get_cases cells k).1 [
+        | inr past ↦ absurd (omega (arith, past.0, lt))
+        | inl here ↦ (let both : Some here.0 ≡ Some c = sym (grown k here.0 here.2) ∙ e in here.2 ∙ both)
+      ]
+
+  more_transition : (classes : Classes) (row : ℕ) (sight : Sight) (t : Transition) → IsTransition classes cells row sight t → IsTransition classes later row sight t
+  more_transition classes row sight t is = record {
+    stands = omega (arith, is.stands, longer);
+    from = λ c e. is.from c (stays t.cell is.stands c e);
+    on = λ c e. is.on c (stays t.cell is.stands c e);
+    next = λ c e. is.next c (stays t.cell is.stands c e);
+    begun = λ c e. is.begun c (stays t.cell is.stands c e);
+    origin = λ c e. is.origin c (stays t.cell is.stands c e);
+    ahead = is.ahead;
+    opened = is.opened;
+  }
+
+  pub told_more : (table : Transitions) → AreTold cells table → AreTold later table
+  told_more table told = record {
+    quiet = λ row column sight t is e.
+        (let q = told.quiet row column sight t is e in (more_transition table.classes row sight t q.0, λ c at. q.1 c (stays t.cell q.0.stands c at)));
+    matching = λ row column sight t is e.
+        (let q = told.matching row column sight t is e in (more_transition table.classes row sight t q.0, λ c at. q.1 c (stays t.cell q.0.stands c at)));
+  }
+
+-- the column of what is seen is one of the table
+pub column_within : (classes : Classes) (sight : Sight) (column : ℕ) → IsColumn classes sight column → column < classes.width
+column_within classes sight column is =
+    let n = number_of sight.before in
+    let w = length classes.members.items in
+    let up : (n + 1) * w ≤ sides_of classes.tests * w = mul-le-mul_right w (omega (arith, is.side)) in
+    let one : (n + 1) * w ≡ n * w + w = omega arith in
+    omega (arith, is.column, is.known, classes.wide, up, one)
+
+-- and nothing else is seen in it
+column_same : (classes : Classes) (a b : Sight) (column : ℕ) → IsColumn classes a column → IsColumn classes b column → a ≡ b
+column_same classes a b column is also =
+    let w = length classes.members.items in
+    let n = number_of a.before in
+    let m = number_of b.before in
+    let same : n * w + is.class ≡ m * w + also.class = sym is.column ∙ also.column in
+    let sides : n ≡ m = sym (div-mul-add n w is.class is.known) ∙ ap (λ (k : ℕ). k / w) same ∙ div-mul-add m w also.class also.known in
+    let classes_same : is.class ≡ also.class = other_part n m is.class also.class w sides same in
+    is.sight ∙ ap₂ (λ (s : Side) (c : ℕ). sight_of classes s (member_of classes c)) (number_same a.before b.before sides) classes_same ∙ sym also.sight
+
+-- the entry at a place among all
+abbrev entry_in : List Entry → Classes → ℕ → ℕ → Entry
+entry_in entries classes row column = get_or entries (row * classes.width + column) Unknown
+
+-- the same classes, and entries that the table told, or that are steps
+pub told_by : (cells : List Cell) (table later : Transitions) → later.classes ≡ table.classes → AreTold cells table
+    → ((row column : ℕ) (sight : Sight) → IsColumn table.classes sight column → (entry_in later.entries.items table.classes row column ≡ entry_at table row column)
+    ⊎ IsEntry table.classes cells row sight (entry_in later.entries.items table.classes row column)) → AreTold cells later
+told_by cells table later same told each = record {
+  quiet = λ row column sight t is e. there row column sight (Quiet t) (column_in sight column is) e (λ old. told.quiet row column sight t (column_in sight column is) old);
+  matching = λ row column sight t is e. there row column sight (Matching t) (column_in sight column is) e (λ old. told.matching row column sight t (column_in sight column is) old);
+} where
+  column_in : (sight : Sight) (column : ℕ) → IsColumn later.classes sight column → IsColumn table.classes sight column
+  column_in sight column is = subst (λ (k : Classes). IsColumn k sight column) same is
+
+  there : (row column : ℕ) (sight : Sight) (y : Entry) → IsColumn table.classes sight column → entry_at later row column ≡ y
+      → (entry_at table row column ≡ y → IsEntry table.classes cells row sight y) → IsEntry later.classes cells row sight y
+  there row column sight y is e old =
+      let now : entry_in later.entries.items table.classes row column ≡ y = subst (λ (k : Classes). entry_in later.entries.items k row column ≡ y) same e in
+      subst (λ (k : Classes). IsEntry k cells row sight y) (sym same)
+      (elim (each row column sight is) [
+        | inl kept ↦ old (sym kept ∙ now)
+        | inr told ↦ subst (IsEntry table.classes cells row sight) now told
+      ])
+
+-- the entries are the same
+pub told_same : (cells : List Cell) (table later : Transitions) → later.classes ≡ table.classes
+    → ((i : ℕ) → get_or later.entries.items i Unknown ≡ get_or table.entries.items i Unknown) → AreTold cells table → AreTold cells later
+told_same cells table later classes same told =
+    told_by cells table later classes told (λ row column sight is. inl (same (row * table.classes.width + column)))
+
+-- one entry is put in
+pub told_set : (cells : List Cell) (table later : Transitions) (row column : ℕ) (sight : Sight) (x : Entry) → later.classes ≡ table.classes
+    → later.entries.items ≡ set table.entries.items (row * table.classes.width + column) x
+    → row * table.classes.width + column < length table.entries.items → IsColumn table.classes sight column → IsEntry table.classes cells row sight x
+    → AreTold cells table → AreTold cells later
+told_set cells table later row column sight x classes put within is entry told = told_by cells table later classes told each where
+  each : (r b : ℕ) (seen : Sight) → IsColumn table.classes seen b → (entry_in later.entries.items table.classes r b ≡ entry_at table r b)
+      ⊎ IsEntry table.classes cells r seen (entry_in later.entries.items table.classes r b)
+  each r b seen also =
+      let w = table.classes.width in
+      let now : entry_in later.entries.items table.classes r b ≡ get_or (set table.entries.items (row * w + column) x) (r * w + b) Unknown =
+      ap (λ (es : List Entry). get_or es (r * w + b) Unknown) put in
+      elim (eqb_tells (r * w + b) (row * w + column)) [
+        | inl same ↦ (
+            let low = column_within table.classes sight column is in
+            let under = column_within table.classes seen b also in
+            let rows : row ≡ r = sym (div-mul-add row w column low) ∙ ap (λ (n : ℕ). n / w) (sym same.1) ∙ div-mul-add r w b under in
+            let columns : column ≡ b = other_part row r column b w rows (sym same.1) in
+            let sights : sight ≡ seen = column_same table.classes sight seen b (subst (IsColumn table.classes sight) columns is) also in
+            let there : x ≡ entry_in later.entries.items table.classes r b =
+            sym (get_or-set_same table.entries.items (row * w + column) x Unknown within) ∙ ap (λ (i : ℕ). get_or (set table.entries.items (row * w + column) x) i Unknown) (sym same.1) ∙ sym now in
+            inr (subst (λ (n : ℕ). IsEntry table.classes cells n seen (entry_in later.entries.items table.classes r b)) rows
+            (subst (λ (s : Sight). IsEntry table.classes cells row s (entry_in later.entries.items table.classes r b)) sights
+            (subst (IsEntry table.classes cells row sight) there entry))))
+        | inr away ↦ inl (now ∙ get_or-set_other table.entries.items (row * w + column) (r * w + b) x Unknown away.1)
+      ]
+
+-- a cell is put behind the others
+pub told_pushed : (cells later : List Cell) (c : Cell) (table : Transitions) → later ≡ cells ++ c ∷ [] → AreTold cells table → AreTold later table
+told_pushed cells later c table e told =
+    let size = ap length e ∙ length-append cells (c ∷ []) in
+    told_more cells later (grown cells later c e) (omega (arith, size)) table told
+
+-- one more step is remembered, with its rows, and the table may tell it
+pub holds_more : (code : Code) (cells later : Cells) (row : ℕ) (sight : Sight) (c : Cell) (told : List Cell) → HasPlace cells → IsFor cells code
+    → GrowsBy 2 cells.rows.lists.items later.rows.lists.items → later.cells.items ≡ cells.cells.items ++ c ∷ [] → c.row ≡ row → c.sight ≡ sight
+    → IsCell code later.rows.lists.items row sight c.next c.begun c.came.items c.matched c.origin
+    → told ≡ later.cells.items → (AreTold told cells.table → AreTold told later.table) → later.table.classes ≡ cells.table.classes → HoldsFor later code
+holds_more code cells later row sight c told place all rows more from on is same tells classes =
+    let size = ap length more ∙ length-append cells.cells.items (c ∷ []) in
+    record {
+      bounded = record {
+        rows = omega (arith, rows.more, place.rows);
+        cells = omega (arith, size, place.cells);
+        told = subst (λ (cs : List Cell). AreTold cs later.table) same
+            (tells (subst (λ (cs : List Cell). AreTold cs cells.table) (sym same) (told_pushed cells.cells.items later.cells.items c cells.table more place.told)));
+      };
+      all = (
+        cells_more code cells.rows.lists.items later.rows.lists.items cells.cells.items later.cells.items row sight c rows.kept all.0 more from on is,
+        subst (λ (k : Classes). AreClasses k (instrs_of code)) (sym classes) all.1,
+      );
+    }
+
+-- what the table has of a row and a character, after a side that is told apart
+pub told_at : (cells : List Cell) (table : Transitions) (row byte column : ℕ) (before : Side) (e : Entry) → slice_get table.classes.columns.items byte ≡ Some column
+    → number_of before < sides_of table.classes.tests → e ≡ get_or table.entries.items (row_start table.classes row before + column) Unknown
+    → AreTold cells table → IsEntry table.classes cells row (sight_for table.classes before byte) e
+told_at cells table row byte column before e here seen is told =
+    let place : row_start table.classes row before + column ≡ row * table.classes.width + (first_of table.classes before + column) = omega arith in
+    told_entry cells table row (first_of table.classes before + column) (sight_for table.classes before byte) e told
+    (record {
+      class = column;
+      known = table.classes.known byte column here;
+      side = seen;
+      sight = ap (λ (o : Option ℕ). sight_of table.classes before (member_or table.classes o byte)) here;
+      column = refl;
+    }) (is ∙ ap (λ (n : ℕ). get_or table.entries.items n Unknown) place)
+
+-- an entry is put in on a character that stands for its class
+pub told_noted : (cells : List Cell) (table made later : Transitions) (row column : ℕ) (sight : Sight) (x : Entry) → IsColumn table.classes sight column → made.classes ≡ table.classes
+    → ((i : ℕ) → get_or made.entries.items i Unknown ≡ get_or table.entries.items i Unknown)
+    → row * made.classes.width + made.classes.width ≤ length made.entries.items → later.classes ≡ made.classes
+    → later.entries.items ≡ set made.entries.items (row * made.classes.width + column) x → AreTold cells table → IsEntry table.classes cells row sight x
+    → AreTold cells later
+told_noted cells table made later row column sight x is classes same room kept put told entry =
+    let there : IsColumn made.classes sight column = subst (λ (k : Classes). IsColumn k sight column) (sym classes) is in
+    let low = column_within made.classes sight column there in
+    told_set cells made later row column sight x kept put (omega (arith, room, low)) there
+    (subst (λ (k : Classes). IsEntry k cells row sight x) (sym classes) entry) (told_same cells table made classes same told)

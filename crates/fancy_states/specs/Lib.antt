@@ -1,0 +1,12 @@
+pub mod Ways
+pub mod Marks
+pub mod Counts
+pub mod Futures
+pub mod Steps
+pub mod Joins
+pub mod Search
+pub mod Origins
+pub mod Transitions
+pub mod Cells
+pub mod Trail
+pub mod Remembered

@@ -1,0 +1,50 @@
+-- The table of a search: what is said there of a row and an ASCII character.
+use Rattle.std.specs.Prelude.{◌≡◌, ◌+◌, ◌*◌, ◌<◌, ℕ, List, None, Some, true, get_or, is_some, length, slice_get}
+use Rattle.fancy_alphabet.specs.declared.sight.Sight.{Sight}
+use Rattle.fancy_states.specs.declared.cells.Cell.{Cell}
+use Rattle.fancy_states.specs.declared.transitions.Transition.{Transition}
+use Rattle.fancy_alphabet.specs.Classes.{IsColumn, row_start}
+use Rattle.fancy_alphabet.specs.declared.classes.Classes.{Classes}
+use Rattle.fancy_states.specs.declared.transitions.Entry.{Entry}
+use Rattle.fancy_states.specs.declared.transitions.Transitions.{Transitions}
+use Rattle.fancy_states.specs.declared.transitions.View.{View}
+use Rattle.fancy_states.specs.declared.transitions.Entry.TheVariants.{Unknown, Quiet, Matching}
+
+-- The step is that of a cell from the row on what is seen, and leads to where its rows have their columns after it.
+pub record IsTransition (classes : Classes) (cells : List Cell) (row : ℕ) (sight : Sight) (t : Transition) : Type 0 where
+  pub stands : t.cell < length cells
+  pub from : (c : Cell) → slice_get cells t.cell ≡ Some c → c.row ≡ row
+  pub on : (c : Cell) → slice_get cells t.cell ≡ Some c → c.sight ≡ sight
+  pub next : (c : Cell) → slice_get cells t.cell ≡ Some c → c.next ≡ t.next
+  pub begun : (c : Cell) → slice_get cells t.cell ≡ Some c → c.begun ≡ t.begun
+  pub origin : (c : Cell) → slice_get cells t.cell ≡ Some c → c.origin ≡ t.origin
+  pub ahead : t.ahead ≡ row_start classes t.next sight.after
+  pub opened : t.opened ≡ row_start classes t.begun sight.after
+
+-- in which no way ended with an outcome
+abbrev pub IsQuiet : List Cell → Transition → Type 0
+IsQuiet cells t = (c : Cell) → slice_get cells t.cell ≡ Some c → c.matched ≡ None
+
+-- in which one did
+abbrev pub IsMatching : List Cell → Transition → Type 0
+IsMatching cells t = (c : Cell) → slice_get cells t.cell ≡ Some c → is_some c.matched ≡ true
+
+abbrev pub IsEntry : Classes → List Cell → ℕ → Sight → Entry → Type 0
+IsEntry classes cells row sight Unknown = Unit {0}
+IsEntry classes cells row sight (Quiet t) = IsTransition classes cells row sight t × IsQuiet cells t
+IsEntry classes cells row sight (Matching t) = IsTransition classes cells row sight t × IsMatching cells t
+
+-- what the table has of a row and a column
+abbrev pub entry_at : Transitions → ℕ → ℕ → Entry
+entry_at table row column = get_or table.entries.items (row * table.classes.width + column) Unknown
+
+-- Each entry of the table is such a step, on what is seen in its column.
+pub record AreTold (cells : List Cell) (table : Transitions) : Type 0 where
+  pub quiet : (row column : ℕ) (sight : Sight) (t : Transition) → IsColumn table.classes sight column
+      → entry_at table row column ≡ Quiet t → IsTransition table.classes cells row sight t × IsQuiet cells t
+  pub matching : (row column : ℕ) (sight : Sight) (t : Transition) → IsColumn table.classes sight column
+      → entry_at table row column ≡ Matching t → IsTransition table.classes cells row sight t × IsMatching cells t
+
+-- the table, as it is read
+abbrev pub IsView : Transitions → View → Type 0
+IsView table v = (v.columns.now ≡ table.classes.columns.items) × (v.entries.now ≡ table.entries.items)

@@ -1,0 +1,141 @@
+//! The table that a search goes by: the step from each row on an ASCII character, as far as it is remembered.
+
+ghost use Rattle.std.specs.Prelude.{◌≡◌, ◌+◌, ◌*◌, ◌<◌, ◌≤◌, ℕ, [], List, OnOk, get_or, length, slice_get, Some};
+ghost use Rattle.fancy_alphabet.specs.Classes.{row_start, sight_for};
+ghost use Rattle.fancy_alphabet.specs.Sides.{number_of, sides_of};
+ghost use Rattle.fancy_states.specs.Transitions.{AreTold, IsEntry, IsView};
+ghost use Rattle.fancy_states.specs.declared.transitions.Transitions.{Transitions};
+ghost use Rattle.fancy_states.specs.declared.cells.Cell.{Cell};
+ghost use Rattle.fancy_alphabet.specs.declared.side.Side.{Side};
+
+use crate::origin::Origin;
+use fancy_alphabet::classes::Classes;
+use fancy_alphabet::sight::Sight;
+use std::alloc::{AllocError, Global};
+
+/// A step, told by numbers.
+#[derive(Clone, Copy)]
+pub struct Transition {
+    /// Where the columns begin of the row after what is read, which stands before it.
+    pub ahead: u32,
+    /// Where those begin of that row with one more way.
+    pub opened: u32,
+    /// The number of its cell.
+    pub cell: u16,
+    /// The row after what is read.
+    pub next: u16,
+    /// That row with one more way, which begins there.
+    pub begun: u16,
+    /// Of which ways those come that it leads to.
+    pub origin: Origin,
+}
+
+/// What the table has of a row and a character.
+#[derive(Clone, Copy)]
+pub enum Entry {
+    /// The step is not remembered.
+    Unknown,
+    /// The step, in which no way ended with an outcome.
+    Quiet(Transition),
+    /// The step, in which one may have.
+    Matching(Transition),
+}
+
+/// The entries of all rows, one for each class of characters and side before it, by the numbers of the rows.
+#[derive(Drop)]
+pub struct Transitions {
+    /// The classes.
+    pub classes: Classes,
+    /// The entries.
+    pub entries: Vec<Entry>,
+}
+
+impl Transitions {
+    /// No step is remembered, and no character has a class.
+    pub fn new(alloc: Global) -> Transitions
+        ensures entries { result.entries.items ≡ [] }
+        ensures columns { result.classes.columns.items ≡ [] }
+    {
+        Transitions {
+            classes: Classes::new(alloc),
+            entries: Vec::new(alloc),
+        }
+    }
+
+    /// The table, to be read.
+    #[inline(always)]
+    pub fn view(&self) -> View<'_>
+        ensures { IsView self.now result }
+    {
+        View {
+            columns: &self.classes.columns,
+            entries: &self.entries,
+        }
+    }
+
+    /// Makes room for the entries of a row.
+    fn reserve(&mut self, row: usize) -> Result<(), AllocError>
+        requires { row < 4_294_967_296 }
+        ensures same { (i : ℕ) → get_or self.new.entries.items i Entry.Unknown
+            ≡ get_or self.old.entries.items i Entry.Unknown }
+        ensures classes { self.new.classes ≡ self.old.classes }
+        ensures room { OnOk result (row * self.new.classes.width + self.new.classes.width
+            ≤ length self.new.entries.items) }
+    {
+        let wanted = row * self.classes.width + self.classes.width;
+        if self.entries.len() < wanted {
+            self.entries.resize(wanted, Entry::Unknown)?;
+        }
+        Ok(())
+    }
+
+    /// Puts in an entry of a row, on a character that stands for its class.
+    pub fn note(&mut self, row: usize, sight: Sight, entry: Entry) -> Result<(), AllocError>
+        requires { row < 4_294_967_296 }
+        ensures told { (cells : List Cell) → AreTold cells self.old
+            → IsEntry self.old.classes cells row sight entry → AreTold cells self.new }
+        ensures classes { self.new.classes ≡ self.old.classes }
+    {
+        let Some(column) = self.classes.column_of(sight) else {
+            return Ok(());
+        };
+        self.reserve(row)?;
+        self.entries[row * self.classes.width + column] = entry;
+        Ok(())
+    }
+}
+
+/// A table that is read: a loop holds it in registers.
+#[derive(Clone, Copy)]
+pub struct View<'t> {
+    /// The column of each character that has one.
+    pub columns: &'t [u8],
+    /// The entries.
+    pub entries: &'t [Entry],
+}
+
+impl View<'_> {
+    /// The column of a character, if it has one.
+    #[inline(always)]
+    pub fn column(self, byte: u8) -> Option<u8>
+        ensures { result ≡ slice_get self.entry.columns.now byte }
+    {
+        self.columns.get(byte as usize).copied()
+    }
+
+    /// What the table has of a column of a row, whose columns begin at `start` for what stands before.
+    #[inline(always)]
+    pub fn at(self, start: u32, column: u8) -> Entry
+        ensures { (cells : List Cell) (table : Transitions) (row : ℕ) (before : Side) (byte : ℕ)
+            → IsView table self.entry → AreTold cells table
+            → number_of before < sides_of table.classes.tests
+            → start ≡ row_start table.classes row before
+            → slice_get self.entry.columns.now byte ≡ Some column
+            → IsEntry table.classes cells row (sight_for table.classes before byte) result }
+    {
+        match self.entries.get(start as usize + column as usize) {
+            Some(entry) => *entry,
+            None => Entry::Unknown,
+        }
+    }
+}
