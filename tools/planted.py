@@ -4,8 +4,8 @@
     tools/planted.py fancy_template               tries each edit of crates/fancy_template/planted/, and writes the README.md there
     tools/planted.py fancy_template write escape  tries the edits whose names have one of these words, and writes nothing
 
-It works in a clone of the last commit, in a folder for temporary files. There it checks the crate once, which begins with what
-other clones on this machine kept, and then each edit over that, one after another: first the module of the edited file alone, and
+It works in a clone of the last commit, in a folder for temporary files. There it checks the crate once, over what tools/kept.py has of
+the crates below it, and then each edit over that, one after another: first the module of the edited file alone, and
 where that is still proved, the whole crate. An edit that does not apply or does not compile says nothing of a contract, nor does
 one that only takes away a name that a proof cites, or that ends at a limit of the prover: each is named.
 
@@ -19,6 +19,8 @@ import sys
 import tempfile
 from collections import Counter
 from pathlib import Path
+
+import kept
 
 ROOT = Path(__file__).resolve().parent.parent
 PAGE = """# Wrong bodies of `{crate}`
@@ -116,9 +118,9 @@ def tried(edit, crate, seed):
         texts = texts_of(edit, crate)
     except Unfit as why:
         return UNAPPLIED, "", str(why)
-    kept = crate / "out/incremental"
-    shutil.rmtree(kept, ignore_errors=True)
-    shutil.copytree(seed, kept, symlinks=True, copy_function=linked)
+    proved = crate / "out/incremental"
+    shutil.rmtree(proved, ignore_errors=True)
+    shutil.copytree(seed, proved, symlinks=True, copy_function=linked)
     was = {path: (crate / path).read_text(encoding="utf-8") for path in texts}
     for path, text in texts.items():
         (crate / path).write_text(text, encoding="utf-8")
@@ -158,6 +160,7 @@ def main():
     with tempfile.TemporaryDirectory(prefix="loftlavender-") as room:
         subprocess.run(["git", "clone", "--quiet", str(ROOT), f"{room}/clone"], check=True)
         crate, seed = Path(room) / "clone/crates" / name, f"{room}/seed"
+        kept.lay_out(Path(room) / "clone", [name])
         status, said = run("rt", "check", folder=crate)
         if status:
             sys.exit("the crate is not proved as it stands:\n" + "\n".join(said.splitlines()[-5:]))

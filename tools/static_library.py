@@ -5,13 +5,15 @@ import shutil
 import subprocess
 import sys
 import tempfile
+from pathlib import Path
 
+import kept
 import unproved
 
 
 def proved(crate, files, out):
-    """Builds a static library in a copy of the repository, from code that `rt ci` proves there. `rt ci` builds nothing of a crate that
-    an earlier run passed, so a source of the copy has to be like none before. Returns what was said."""
+    """Builds a static library in a copy of the repository, from code that the gate's commands prove there, over what `kept.py` has.
+    Returns what was said."""
     words = [sys.executable, __file__, crate, out]
     ran = subprocess.run(words, cwd=files, stdin=subprocess.DEVNULL, stdout=subprocess.PIPE, stderr=subprocess.STDOUT, text=True)
     if not os.path.isfile(out):
@@ -20,22 +22,23 @@ def proved(crate, files, out):
 
 
 def prove_here(crate, out):
-    """In a copy of the repository that is the current folder: has `rt ci` prove the crate and those below it, and build the static
-    library."""
-    rt = unproved.module("rtmain", unproved.rt_path())
-    by_default = rt.Crate.ci
+    """In a copy of the repository that is the current folder: proves the crate and those below it, and builds the static library."""
 
-    def ci(self, flags, tests):
-        if self.is_static and not tests:
-            words = self.words(flags, keeps=False)
-            return self.prove(["build", *words, "--toolchain", f"{rt.KIT}/toolchain", "--backend", "llvm", "-o", out])
-        return by_default(self, flags, tests)
+    def change(rt):
+        by_default = rt.Crate.ci
 
-    rt.Crate.ci = ci
-    # Tests and must-fail edits are the gate's affair.
-    rt.rtlib.Crate.has_tests = lambda self: False
-    rt.edits_of = lambda crate: ([], [])
-    return rt.ci_of([crate], False)
+        def ci(self, flags, tests):
+            if self.is_static and not tests:
+                words = self.words(flags, keeps=False)
+                return self.prove(["build", *words, "--toolchain", f"{rt.KIT}/toolchain", "--backend", "llvm", "-o", out])
+            return by_default(self, flags, tests)
+
+        rt.Crate.ci = ci
+        # Tests and must-fail edits are the gate's affair.
+        rt.rtlib.Crate.has_tests = lambda self: False
+        rt.edits_of = lambda crate: ([], [])
+
+    return kept.run(Path.cwd(), [crate], change)
 
 
 def without_proof(program, files, exports, room):
