@@ -16,6 +16,15 @@ use Rattle.fancy_states.specs.Search.{Going, IsFollowed}
 abbrev pub stood : Stand → Transition → Stand
 stood at t = record { place = at.place + 1; next = t.next; begun = t.begun; opened = t.opened }
 
+-- where it stands after the last step that it took, if it took one, but for the place
+abbrev pub left_at : Stand → Option Transition → Stand
+left_at from None = from
+left_at from (Some t) = stood from t
+
+-- where it stands at a place
+abbrev pub came_to : Stand → ℕ → Option Transition → Stand
+came_to from place last = record (left_at from last) { place = place }
+
 -- Where a search stands: these ways wait there, which began at these places, and this was found. A match may begin and end there.
 pub record IsAt (a : Attempt) (cells : Cells) (at : Stand) (ways starts : List ℕ) (found : Option Span) : Type 0 where
   pub followed : IsFollowed a

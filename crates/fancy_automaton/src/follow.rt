@@ -1,11 +1,11 @@
 //! The inner loops of a search, where all ways that wait began at one place: no trail is needed there.
 
-ghost use Rattle.std.specs.Prelude.{◌≡◌, ◌+◌, ◌<◌, ◌≤◌, [], ℕ, None, IfSome, is_some, length, true};
+ghost use Rattle.std.specs.Prelude.{◌≡◌, ◌+◌, ◌<◌, ◌≤◌, [], ℕ, None, IfSome, is_some, length, option_map, true};
 ghost use Rattle.fancy_code.specs.Attempt.{may_end_in};
 ghost use Rattle.fancy_prefilter.specs.Seen.{MayStart};
 ghost use Rattle.fancy_states.specs.Cells.{HasRows, HoldsFor, IsIdle, ways_at};
 ghost use Rattle.fancy_states.specs.Search.{Going, IsFollowed, Passes};
-ghost use Rattle.fancy_automaton.specs.Sole.{IsAmid, IsSole, Reaches};
+ghost use Rattle.fancy_automaton.specs.Sole.{IsAmid, IsSole, Reaches, came_to};
 ghost use Rattle.fancy_automaton.specs.Decided.{Goal, IsDecided, IsPlaced, Opens};
 
 use crate::hop::{Stand, ahead_of, idle_row, row_start, stand_after};
@@ -16,7 +16,7 @@ use fancy_states::cells::Cells;
 use fancy_states::origin::Origin;
 use fancy_states::rows::Target;
 use fancy_states::trail::VISITS;
-use fancy_states::transitions::Entry;
+use fancy_states::transitions::{Entry, Transition};
 
 /// A search whose ways that wait all began at one place, and so did the match that was found, if one was.
 #[derive(Clone, Copy)]
@@ -31,6 +31,7 @@ pub struct Sole {
 
 impl Sole {
     /// At a place where no way waits, and nothing was found.
+    #[inline(always)]
     pub(crate) fn new(attempt: &Attempt, cells: &Cells, rows: Target, place: usize) -> Sole
         requires followed { IsFollowed attempt.now }
         requires kept { HoldsFor cells.now attempt.now.code.now }
@@ -65,6 +66,7 @@ impl Sole {
 }
 
 /// The first place, from one on, at which a match may begin; past the last one where there is none.
+#[inline(always)]
 pub(crate) fn next_place(attempt: &Attempt, from: usize) -> usize
     requires ordered { from ≤ attempt.now.last + 1 }
     requires inside { attempt.now.last ≤ length attempt.now.haystack.now }
@@ -87,6 +89,27 @@ pub(crate) fn next_place(attempt: &Attempt, from: usize) -> usize
     place
 }
 
+/// Where a search stands at a place, a byte offset, after the last step that it took, if it took one.
+#[inline(always)]
+fn came_to(from: Stand, place: usize, last: Option<&Transition>) -> Stand
+    ensures { result ≡ came_to from place (option_map (λ t. t.now) last.entry) }
+{
+    match last {
+        None => Stand {
+            place,
+            next: from.next,
+            begun: from.begun,
+            opened: from.opened,
+        },
+        Some(step) => Stand {
+            place,
+            next: step.next as usize,
+            begun: step.begun as usize,
+            opened: step.opened,
+        },
+    }
+}
+
 /// Goes on until a match is found, or ways wait that began at several places. Where no way waits at two places in a row, it is
 /// left to a scan to find the next place.
 fn seek(attempt: &Attempt, cells: &Cells, from: Sole, idle: usize) -> Sole
@@ -98,29 +121,37 @@ fn seek(attempt: &Attempt, cells: &Cells, from: Sole, idle: usize) -> Sole
 {
     let table = cells.table.view();
     let haystack = attempt.haystack;
-    let mut at = from.stand;
+    let mut place = from.stand.place;
+    let mut row = from.stand.opened;
     let mut start = from.start;
-    'places: while at.place < attempt.last {
-        let Some(column) = table.column(haystack[at.place]) else {
+    let mut last = None;
+    'places: while place < attempt.last {
+        let Some(column) = table.column(haystack[place]) else {
             break 'places;
         };
-        let Entry::Quiet(step) = table.at(at.opened, column) else {
+        let Some(entry) = table.entry(row, column) else {
+            break 'places;
+        };
+        let Entry::Quiet(step) = entry else {
             break 'places;
         };
         match step.origin {
             Origin::Mixed => {
                 if step.next as usize == idle {
-                    at = stand_after(at, step);
+                    place += 1;
+                    last = Some(step);
                 }
                 break 'places;
             }
-            Origin::Last => start = at.place,
+            Origin::Last => start = place,
             Origin::Earlier => {}
         }
-        at = stand_after(at, step);
+        row = step.opened;
+        place += 1;
+        last = Some(step);
     }
     Sole {
-        stand: at,
+        stand: came_to(from.stand, place, last),
         start,
         end: None,
     }
@@ -240,26 +271,31 @@ pub(crate) fn lengthen(attempt: &Attempt, cells: &Cells, from: Sole) -> Sole
 {
     let table = cells.table.view();
     let haystack = attempt.haystack;
-    let mut at = from.stand;
-    let mut row = ahead_of(attempt, cells, at);
+    let mut place = from.stand.place;
+    let mut row = ahead_of(attempt, cells, from.stand);
     let mut end = from.end;
-    'places: while at.place < attempt.last {
-        let Some(column) = table.column(haystack[at.place]) else {
+    let mut last = None;
+    'places: while place < attempt.last {
+        let Some(column) = table.column(haystack[place]) else {
             break 'places;
         };
-        let step = match table.at(row, column) {
+        let Some(entry) = table.entry(row, column) else {
+            break 'places;
+        };
+        let step = match entry {
             Entry::Unknown => break 'places,
             Entry::Quiet(step) => step,
             Entry::Matching(step) => {
-                end = Some(at.place);
+                end = Some(place);
                 step
             }
         };
         row = step.ahead;
-        at = stand_after(at, step);
+        place += 1;
+        last = Some(step);
     }
     Sole {
-        stand: at,
+        stand: came_to(from.stand, place, last),
         start: from.start,
         end,
     }
@@ -278,6 +314,9 @@ pub(crate) fn follow(attempt: &Attempt, cells: &Cells, from: Sole) -> Sole
             None => return at,
             Some(next) => at = next,
         }
+    }
+    if at.stand.next == idle {
+        return at;
     }
     lengthen(attempt, cells, at)
 }

@@ -33,6 +33,7 @@ use std::alloc::AllocError;
 
 /// Goes on with a trail, from where a walk without one ended: where the leftmost match begins and ends that is preferred there, if
 /// there is one.
+#[inline(never)]
 fn trace(
     attempt: &Attempt,
     cells: &mut Cells,
@@ -63,6 +64,7 @@ fn trace(
 }
 
 /// Where the leftmost match within the bounds begins and ends that is preferred there, if there is one.
+#[inline(always)]
 fn find_span(
     attempt: &Attempt,
     cells: &mut Cells,
@@ -98,6 +100,7 @@ fn find_span(
 }
 
 /// Where the match begins and ends that is asked for: at the first position alone, or at the leftmost one that has a match.
+#[inline(always)]
 fn span_in(
     attempt: &Attempt,
     anchored: bool,
@@ -137,6 +140,7 @@ fn span_in(
 /// # Errors
 ///
 /// `SearchRefusal::Memory` where memory runs out, and no other.
+#[inline(always)]
 pub fn find(
     code: &Code,
     haystack: &[u8],
@@ -183,6 +187,7 @@ pub fn find(
 }
 
 /// A match that starts at its position.
+#[inline(always)]
 fn found_by(span: Option<Span>) -> Option<Found>
     ensures { result ≡ option_map at_position span }
 {

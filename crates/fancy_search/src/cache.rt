@@ -9,7 +9,6 @@ ghost use Rattle.fancy_input.specs.Work.{steps_of, returns_of, units_of};
 use crate::following::{Lengths, is_long_enough};
 use crate::read_past::ReadPast;
 use fancy_bytes::lacking::KnownBytes;
-use fancy_input::input::Request;
 use fancy_input::span::Span;
 use fancy_input::work::Work;
 use fancy_machine::search as machine;
@@ -56,13 +55,20 @@ impl Kept {
         }
     }
 
-    /// Whether a search is worth the automaton's steps: its text is not shorter than `shortest`, or the steps of searches before
-    /// are kept.
-    pub(crate) fn is_worth_steps(self, haystack: &[u8], request: Request, shortest: Lengths) -> bool
-        ensures { result ≡ true → table_kept self ≡ None }
+    /// Whether a search from `first` up to `end`, byte offsets, is worth the automaton's steps: its text is not shorter than
+    /// `shortest`, or the steps of searches before are kept.
+    #[inline(always)]
+    pub(crate) fn is_worth_steps(
+        &self,
+        haystack: &[u8],
+        first: usize,
+        end: usize,
+        shortest: Lengths,
+    ) -> bool
+        ensures { result ≡ true → table_kept self.now ≡ None }
     {
         match self {
-            Kept::Nothing => is_long_enough(haystack, request, shortest),
+            Kept::Nothing => is_long_enough(haystack, first, end, shortest),
             Kept::Steps => true,
             Kept::Runner(_) | Kept::Lines => false,
         }
@@ -84,7 +90,7 @@ pub struct RememberedSteps {
 }
 
 impl RememberedSteps {
-    ghost use Rattle.fancy_search.specs.KeptTables.{is_steps, keeps_no_table};
+    ghost use Rattle.fancy_search.specs.KeptTables.{is_steps};
 
     /// None is remembered, and no memory is taken.
     pub(crate) fn new(alloc: Global) -> RememberedSteps {
@@ -95,31 +101,40 @@ impl RememberedSteps {
     }
 
     /// Makes them ready for a search that begins at `first`, a byte offset: those of the searches before stay, where they are kept,
-    /// and else none is remembered.
-    pub(crate) fn ready(&mut self, kept: Kept, first: usize)
-        requires within { is_steps kept ≡ true → IsBounded self.old.cells }
+    /// and else none is remembered. They are kept then.
+    #[inline(always)]
+    pub(crate) fn ready(&mut self, kept: &mut Kept, first: usize)
+        requires within { is_steps kept.old ≡ true → IsBounded self.old.cells }
         ensures within { IsBounded self.new.cells }
-        ensures all { (code : Code) → (is_steps kept ≡ true → Remembers self.old.cells code)
+        ensures all { (code : Code) → (is_steps kept.old ≡ true → Remembers self.old.cells code)
             → Remembers self.new.cells code }
+        ensures kept { kept.new ≡ Kept.Steps }
     {
-        if !matches!(kept, Kept::Steps) {
-            self.cells.clear();
-            self.read = ReadPast::new(first);
+        if matches!(kept, Kept::Steps) {
+            return;
         }
+        self.begin(first);
+        *kept = Kept::Steps;
     }
 
-    /// What is kept after a search that ended at `end`, a byte offset: the steps, or no more once searches read much more than they
-    /// came on by.
-    pub(crate) fn kept_after(&mut self, end: usize) -> Kept
+    /// Forgets all, before searches of which the first begins at `first`, a byte offset.
+    #[inline(never)]
+    fn begin(&mut self, first: usize)
+        ensures within { IsBounded self.new.cells }
+        ensures all { (code : Code) → Remembers self.new.cells code }
+    {
+        self.cells.clear();
+        self.read = ReadPast::new(first);
+    }
+
+    /// Whether they serve the next search too, after one that ended at `end`, a byte offset: not once searches read much more than
+    /// they came on by.
+    #[inline(always)]
+    pub(crate) fn serve_on(&mut self, end: usize) -> bool
         ensures cells { self.new.cells ≡ self.old.cells }
-        ensures left { keeps_no_table result ≡ true }
     {
         self.read.add(end, self.cells.reached());
-        if self.read.is_little() {
-            Kept::Steps
-        } else {
-            Kept::Runner(None)
-        }
+        self.read.is_little_before(end)
     }
 }
 

@@ -2,7 +2,6 @@
 
 use fancy_alphabet::side::Tests;
 use fancy_code::code::Code;
-use fancy_input::input::Request;
 use fancy_prefilter::branches::WIDE;
 use fancy_prefilter::prefilter::{Opening, Prefilter};
 
@@ -92,10 +91,11 @@ fn seems_ascii(haystack: &[u8], first: usize, bytes: usize) -> bool {
 }
 
 /// Whether a search alone, or the first of a list, goes over enough bytes for the automaton, which serves searches over
-/// `shortest` bytes or more: where some characters are past ASCII, it needs more of them.
-pub(crate) fn is_long_enough(haystack: &[u8], request: Request, shortest: Lengths) -> bool {
-    let first = request.effective_start();
-    let bytes = request.range_end.saturating_sub(first);
+/// `shortest` bytes or more: where some characters are past ASCII, it needs more of them. It goes from `first` up to `end`, byte
+/// offsets.
+#[inline(never)]
+pub(crate) fn is_long_enough(haystack: &[u8], first: usize, end: usize, shortest: Lengths) -> bool {
+    let bytes = end.saturating_sub(first);
     if bytes >= shortest.any {
         return true;
     }

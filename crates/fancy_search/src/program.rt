@@ -168,6 +168,7 @@ fn anchored_at(request: Request, position: usize) -> Request
 }
 
 /// Where what was found ends, or where nothing was found, where the search began.
+#[inline(always)]
 fn end_of(found: Option<Found>, first: usize) -> usize {
     match found {
         Some(found) => found.end,
@@ -322,6 +323,7 @@ impl Program {
     /// `kept` tells what the searches before left in `cache`, and then what this one leaves there for the next. For an easy pattern
     /// what they found out is not followed again. `known` is what is known of the haystack's bytes: those that are looked for are added
     /// to it, so that the searches of a list look for each once.
+    #[inline(always)]
     pub fn search_next(
         &self,
         asked: &Asked<'_>,
@@ -357,10 +359,13 @@ impl Program {
         }
         let is_kept = kept.is_lines();
         *kept = Kept::Lines;
-        self.backtrack(asked, is_kept, cache, work)
+        // A copy is handed on, so that the other has no address and an easy search takes it in registers.
+        let asked = *asked;
+        self.backtrack(&asked, is_kept, cache, work)
     }
 
     /// The search for an easy pattern, by the automaton where that is worth its steps, and else by the runner. It has no `\G`.
+    #[inline(always)]
     fn search_easy(
         &self,
         asked: &Asked<'_>,
@@ -386,7 +391,7 @@ impl Program {
         ensures unlimited { kept.old ≡ Kept.Nothing
             → AllowsAllSteps self.now asked.now.request work.old → IsOutOfSteps result → ⊥ }
     {
-        if self.is_followed(asked, *kept) && self.allows_all_steps(asked.request, work) {
+        if self.is_followed(asked, kept) && self.allows_all_steps(asked.request, work) {
             cache.served = Engine::WithoutGroups(self.code.groups);
             return self.follow(asked.haystack, asked.request, kept, &mut cache.steps, work);
         }
@@ -424,22 +429,26 @@ impl Program {
     }
 
     /// Whether the automaton serves a search: where it follows the code, the search is not anchored, and it is worth its steps.
-    fn is_followed(&self, asked: &Asked<'_>, kept: Kept) -> bool
+    #[inline(always)]
+    fn is_followed(&self, asked: &Asked<'_>, kept: &Kept) -> bool
         ensures plain { result ≡ true → ArePlain (instrs_of self.now.code) }
         ensures places { result ≡ true → KeepsPlaces asked.now.haystack.now self.now.code.meaning
             (search_options self.now.options).on_boundaries }
-        ensures none { result ≡ true → table_kept kept ≡ None }
+        ensures none { result ≡ true → table_kept kept.now ≡ None }
     {
         if asked.request.anchored || !self.worth_following {
             return false;
         }
-        if !kept.is_worth_steps(asked.haystack, asked.request, self.shortest) {
+        let request = asked.request;
+        let first = request.effective_start();
+        if !kept.is_worth_steps(asked.haystack, first, request.range_end, self.shortest) {
             return false;
         }
         self.can_follow(asked.text)
     }
 
     /// Whether the limit of steps allows all that an easy search takes at most, besides what was done before.
+    #[inline(always)]
     fn allows_all_steps(&self, request: Request, work: &Work) -> bool
         requires inside { request.range_end < usize.MAX }
         ensures { result ≡ true → AllowsAllSteps self.now request work.now }
@@ -486,8 +495,7 @@ impl Program {
         ensures refused { IfErr result (λ e. e ≡ Error.Memory) }
     {
         let first = request.effective_start();
-        steps.ready(*kept, first);
-        *kept = Kept::Steps;
+        steps.ready(kept, first);
         let options = self.options.for_search();
         match automaton::find(
             &self.code,
@@ -498,7 +506,9 @@ impl Program {
             work,
         ) {
             Ok(found) => {
-                *kept = steps.kept_after(end_of(found, first));
+                if !steps.serve_on(end_of(found, first)) {
+                    *kept = Kept::Runner(None);
+                }
                 Ok(found)
             }
             Err(_) => Err(Error::Memory),
@@ -528,6 +538,7 @@ impl Program {
 
     /// Whether the text that every match has in it was looked for, and stands nowhere in what is searched. Under `seek`, which is
     /// defined by bytes, it is not looked for.
+    #[inline(always)]
     fn lacks_text(&self, asked: &Asked<'_>) -> bool
         ensures none { result ≡ true → search (query_in self.now asked.now) ≡ None }
         ensures unsought { result ≡ true → (program_options self.now).seek ≡ false }
@@ -692,7 +703,7 @@ impl Program {
             (λ _. AllowsAttempt self.now (query_in self.now asked.now) position) }
     {
         let from_position = anchored_at(asked.request, position);
-        if self.is_followed_at(asked, from_position, notes.kept)
+        if self.is_followed_at(asked, from_position, &notes.kept)
             && self.allows_all_steps(from_position, work)
         {
             return self.follow_at(asked, position, notes, &mut cache.engines, work);
@@ -702,7 +713,7 @@ impl Program {
 
     /// Whether the automaton serves an attempt of a list: where it follows the code, and it is worth its steps. That is so from the
     /// first one on or never, and no longer once it was not.
-    fn is_followed_at(&self, asked: &Asked<'_>, from_position: Request, kept: Kept) -> bool
+    fn is_followed_at(&self, asked: &Asked<'_>, from_position: Request, kept: &Kept) -> bool
         ensures easy { result ≡ true → program_is_easy self.now ≡ true }
         ensures plain { result ≡ true → ArePlain (instrs_of self.now.code) }
         ensures places { result ≡ true → KeepsPlaces asked.now.haystack.now self.now.code.meaning
@@ -711,7 +722,13 @@ impl Program {
         if !self.easy || !self.can_follow(asked.text) {
             return false;
         }
-        kept.is_worth_steps(asked.haystack, from_position, self.shortest)
+        let first = from_position.effective_start();
+        kept.is_worth_steps(
+            asked.haystack,
+            first,
+            from_position.range_end,
+            self.shortest,
+        )
     }
 
     /// The attempt at one position for an easy pattern, by the automaton, which goes on with the notes.
@@ -812,6 +829,7 @@ impl Program {
 
     /// The search for an easy pattern, by the memoised runner. It has no `\G`. `kept` is the table that searches before left, if one is
     /// kept, and then what this one leaves.
+    #[inline(never)]
     fn run(
         &self,
         haystack: &[u8],
@@ -860,6 +878,7 @@ impl Program {
     }
 
     /// The search for a hard pattern, by the backtracking machine. `is_kept` says that the search before was of the same haystack.
+    #[inline(never)]
     fn backtrack(
         &self,
         asked: &Asked<'_>,

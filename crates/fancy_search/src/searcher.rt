@@ -191,6 +191,7 @@ impl<S: Input> Searcher<S> {
     }
 
     /// The answer of the next search.
+    #[inline(never)]
     #[tactic(auto, unfolding(crate::specs::MatchList::answer))]
     fn answer(&mut self, program: &Program, cache: &mut Cache) -> Result<Option<FoundItem>>
         requires suits { IsSuited S.text S.bytes program.now self.old }

@@ -1,6 +1,6 @@
 //! The table that a search goes by: the step from each row on an ASCII character, as far as it is remembered.
 
-ghost use Rattle.std.specs.Prelude.{◌≡◌, ◌+◌, ◌*◌, ◌<◌, ◌≤◌, ℕ, [], List, OnOk, get_or, length, slice_get, Some};
+ghost use Rattle.std.specs.Prelude.{◌≡◌, ◌+◌, ◌*◌, ◌<◌, ◌≤◌, ℕ, [], List, OnOk, IfSome, get_or, length, slice_get, Some};
 ghost use Rattle.fancy_alphabet.specs.Classes.{row_start, sight_for};
 ghost use Rattle.fancy_alphabet.specs.Sides.{number_of, sides_of};
 ghost use Rattle.fancy_states.specs.Transitions.{AreTold, IsEntry, IsView};
@@ -114,13 +114,31 @@ pub struct View<'t> {
     pub entries: &'t [Entry],
 }
 
-impl View<'_> {
+impl<'t> View<'t> {
     /// The column of a character, if it has one.
     #[inline(always)]
     pub fn column(self, byte: u8) -> Option<u8>
         ensures { result ≡ slice_get self.entry.columns.now byte }
     {
         self.columns.get(byte as usize).copied()
+    }
+
+    /// What the table has of a column of a row, whose columns begin at `start` for what stands before, if it has that column: a loop
+    /// reads of it what it goes by, and the rest where it ends.
+    #[inline(always)]
+    pub fn entry(self, start: u32, column: u8) -> Option<&'t Entry>
+        ensures { (cells : List Cell) (table : Transitions) (row : ℕ) (before : Side) (byte : ℕ)
+            → IsView table self.entry → AreTold cells table
+            → number_of before < sides_of table.classes.tests
+            → start ≡ row_start table.classes row before
+            → slice_get self.entry.columns.now byte ≡ Some column
+            → IfSome result (λ e. IsEntry table.classes cells row
+            (sight_for table.classes before byte) e.now) }
+    {
+        match self.entries.get(start as usize + column as usize) {
+            Some(entry) => Some(entry),
+            None => None,
+        }
     }
 
     /// What the table has of a column of a row, whose columns begin at `start` for what stands before.
@@ -133,7 +151,7 @@ impl View<'_> {
             → slice_get self.entry.columns.now byte ≡ Some column
             → IsEntry table.classes cells row (sight_for table.classes before byte) result }
     {
-        match self.entries.get(start as usize + column as usize) {
+        match self.entry(start, column) {
             Some(entry) => *entry,
             None => Entry::Unknown,
         }

@@ -7,14 +7,14 @@ use Rattle.fancy_search.proofs.SearchedLemmas.{known, nowhere}
 use Rattle.fancy_search.proofs.ProgramSizeLemmas.{parts_of_easy}
 use Rattle.fancy_search.proofs.program.Program.follow.Goals as goal
 
-pub returns-in-Ok-clause-answer : goal.returns-in-Ok-clause-answer
-returns-in-Ok-clause-answer c on =
+pub returns-after-not-serve_on-clause-answer : goal.returns-after-not-serve_on-clause-answer
+returns-after-not-serve_on-clause-answer c on =
     let easy = parts_of_easy _ _ _ c.requires.easy in
     rw (easy.1, easy.2) (known _ _ c.args.self.now.compiled
     (λ compiled. rw (c.args.self.now.meant, c.for_search-options.ensures) at (c.in-Ok.ensures.answer _ on compiled.coded)))
 
-pub returns-in-Ok-clause-counts : goal.returns-in-Ok-clause-counts
-returns-in-Ok-clause-counts c = record {
+pub returns-after-not-serve_on-clause-counts : goal.returns-after-not-serve_on-clause-counts
+returns-after-not-serve_on-clause-counts c = record {
   steps = c.find.ensures.steps;
   returns = omega (arith, c.find.ensures.returns);
   paired = omega (arith, c.find.ensures.returns, c.find.ensures.steps, c.requires.room.2);
@@ -31,14 +31,14 @@ returns-in-Err-clause-counts c = record {
   limited = λ e. cc;
 }
 
-pub returns-in-Ok-clause-idle : goal.returns-in-Ok-clause-idle
-returns-in-Ok-clause-idle c on none = nowhere c.args.self.now c.args.haystack.now c.args.request on _ _ (λ k. omega (arith, c.type_inv.haystack k)) none c.find.ensures.idle
+pub returns-after-not-serve_on-clause-idle : goal.returns-after-not-serve_on-clause-idle
+returns-after-not-serve_on-clause-idle c on none = nowhere c.args.self.now c.args.haystack.now c.args.request on _ _ (λ k. omega (arith, c.type_inv.haystack k)) none c.find.ensures.idle
 
 pub returns-in-Err-clause-idle : goal.returns-in-Err-clause-idle
 returns-in-Err-clause-idle c on none = nowhere c.args.self.now c.args.haystack.now c.args.request on _ _ (λ k. omega (arith, c.type_inv.haystack k)) none c.find.ensures.idle
 
-pub returns-in-Ok-clause-kept : goal.returns-in-Ok-clause-kept
-returns-in-Ok-clause-kept c = rw c.kept_after.ensures.cells (remembers c.find.new.cells c.args.self.now.code c.find.ensures.all, c.find.ensures.kept)
+pub returns-after-not-serve_on-clause-kept : goal.returns-after-not-serve_on-clause-kept
+returns-after-not-serve_on-clause-kept c = rw c.serve_on.ensures.cells (remembers c.find.new.cells c.args.self.now.code c.find.ensures.all, c.find.ensures.kept)
 
 pub returns-in-Err-clause-kept : goal.returns-in-Err-clause-kept
 returns-in-Err-clause-kept c = (remembers c.find.new.cells c.args.self.now.code c.find.ensures.all, c.find.ensures.kept)

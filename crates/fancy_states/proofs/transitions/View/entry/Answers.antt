@@ -6,7 +6,7 @@ use Rattle.fancy_states.specs.declared.transitions.Entry.{Entry}
 use Rattle.fancy_states.specs.declared.transitions.Entry.TheVariants.{Unknown}
 use Rattle.fancy_states.specs.declared.transitions.Transitions.{Transitions}
 use Rattle.fancy_states.proofs.TransitionLemmas.{told_at}
-use Rattle.fancy_states.proofs.transitions.View.at.Goals as goal
+use Rattle.fancy_states.proofs.transitions.View.entry.Goals as goal
 
 pub returns-in-Some : goal.returns-in-Some
 returns-in-Some c cells table row before byte view told seen starts here =
