@@ -22,3 +22,4 @@ pub mod LoopLemmas
 pub mod ChoiceLemmas
 pub mod DropLemmas
 pub mod FrontLemmas
+pub mod PricedLemmas

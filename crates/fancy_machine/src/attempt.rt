@@ -113,6 +113,28 @@ impl<'a> Attempt<'a> {
         Ok(())
     }
 
+    /// Counts so many returns, of which there are most often none. Where a limit allows fewer, it counts those, and the attempt is
+    /// refused.
+    #[inline]
+    pub(crate) fn count_returns(
+        &self,
+        count: usize,
+        limit: usize,
+        work: &mut Work,
+    ) -> Result<(), SearchRefusal>
+        requires { returns_of work.old ≤ limit }
+        ensures counted { OnOk result (returns_of work.new ≡ returns_of work.old + count) }
+        ensures adds { AddsReturns count work.old work.new }
+        ensures refused { result ≡ Err SearchRefusal.Returns → limit < returns_of work.old + count }
+        ensures saved { result ≢ Err SearchRefusal.Choices }
+        ensures heeds { HeedsLimits limit self.now.options.step_limit result work.old work.new }
+    {
+        if count == 0 {
+            return Ok(());
+        }
+        work.count_returns(count, limit, self.options.step_limit)
+    }
+
     /// Follows one instruction, where an outcome that is not accepted is a dead end, and so is each where the longest
     /// is asked for: it is offered as the best one, and the attempt goes on.
     fn turn(
@@ -215,7 +237,7 @@ impl<'a> Attempt<'a> {
             return Ok(());
         }
         let passed = trail.pass_over(self);
-        work.count_returns(passed, limit, self.options.step_limit)
+        self.count_returns(passed, limit, work)
     }
 
     /// Takes the branch that was saved last, once it passed over those that die at once: whether there is one. The returns are added

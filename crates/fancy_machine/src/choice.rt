@@ -133,7 +133,7 @@ pub(crate) fn choose(
     work.count_step_within();
     let passage = passage_at(choice, attempt, trail);
     let returns = passage.price.returns as usize;
-    work.count_returns(returns, limit, attempt.options.step_limit)?;
+    attempt.count_returns(returns, limit, work)?;
     match passage.onward {
         Onward::Ends => Ok(Next::Dead),
         Onward::Goes(to) => {

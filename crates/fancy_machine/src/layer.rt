@@ -1,8 +1,10 @@
 //! What the machine keeps below the way that it follows.
 
-ghost use Rattle.std.specs.Prelude.{◌≡◌, ◌≤◌, ℕ, take, vec_len, if◌then◌else◌, ◌==◌, true};
+ghost use Rattle.std.specs.Prelude.{◌≡◌, ◌+◌, ◌<◌, ◌≤◌, ℕ, [], ◌∷◌, ◌++◌, OnErr, OnOk, take, vec_len, vec_capacity, if◌then◌else◌, ◌==◌, true};
 ghost use Rattle.fancy_machine.specs.Layers.{saves, is_one, earlier, branches_in, region_by, TookLast};
 ghost use Rattle.fancy_machine.specs.Machine.{ends_kind};
+
+use std::alloc::AllocError;
 
 /// What a layer is.
 #[derive(Clone, Copy, PartialEq, Eq, Debug)]
@@ -105,6 +107,29 @@ pub(crate) fn region_by(layer: Layer, count: usize) -> usize
         Kind::Branch => layer.region,
         Kind::Atom | Kind::Look(_) | Kind::Denial(_) | Kind::Condition => count,
     }
+}
+
+/// Makes room for one more layer.
+#[inline(never)]
+fn make_room(layers: &mut Vec<Layer>) -> Result<(), AllocError>
+    ensures items { layers.new.items ≡ layers.old.items }
+    ensures room { OnOk result (vec_len layers.new < vec_capacity layers.new) }
+{
+    layers.reserve(1)
+}
+
+/// Puts a layer on the others. Most often there is room for it.
+#[inline]
+pub(crate) fn put_layer(layers: &mut Vec<Layer>, layer: Layer) -> Result<(), AllocError>
+    ensures items { OnOk result (layers.new.items ≡ layers.old.items ++ layer ∷ []) }
+    ensures refused { OnErr result (layers.new.items ≡ layers.old.items) }
+    ensures len { OnOk result (vec_len layers.new ≡ vec_len layers.old + 1) }
+{
+    if layers.len() >= layers.capacity() {
+        make_room(layers)?;
+    }
+    layers.push_reserved(layer);
+    Ok(())
 }
 
 /// Keeps the lowest layers, so many.

@@ -8,11 +8,11 @@ ghost use Rattle.fancy_meaning.specs.Search.{Query, search, attempt, returns, ch
 ghost use Rattle.fancy_prefilter.specs.Seen.{IsNextCandidate};
 ghost use Rattle.fancy_meaning.specs.Tried.{tried, NoneTried};
 ghost use Rattle.fancy_input.specs.Work.{steps_of, returns_of, HasRoom};
-ghost use Rattle.fancy_prices.specs.Entries.{AreEntries, IsNextEntry, is_entry};
+ghost use Rattle.fancy_prices.specs.Entries.{AreEntries, IsNextEntry, IsToldAt, is_entry};
 ghost use Rattle.fancy_prices.specs.Front.{IsFront};
 ghost use Rattle.fancy_machine.specs.Asked.{Serves, Asks, IsAsked, Answers, branches_allowed, groups_held, lines_held, seen_held};
 ghost use Rattle.fancy_machine.specs.Attempt.{KnowsSeen};
-ghost use Rattle.fancy_machine.specs.Front.{GoesPast, returns_ahead};
+ghost use Rattle.fancy_machine.specs.Front.{ArePriced, GoesPast, returns_ahead};
 ghost use Rattle.fancy_machine.specs.Log.{writes_allowed};
 ghost use Rattle.fancy_machine.specs.Parts.{IsReady, HeedsLimits, KeepsCounts};
 
@@ -34,6 +34,7 @@ use fancy_meaning::reading::ready_last_lines;
 use fancy_prefilter::candidates::next_candidate;
 use fancy_prices::entries::Entries;
 use fancy_prices::front::Front;
+use fancy_prices::price::Price;
 use std::alloc::Global;
 
 /// What searches work in, reused from one to the next, with the groups of the last match.
@@ -144,7 +145,12 @@ pub fn search(
     ready_last_lines(&mut cache.seen.last_lines, attempt.haystack, is_kept);
     let mut place = positions.next(first);
     while place <= last {
-        let found = pass_or_try(&attempt, &positions, place, limit, cache, work)?;
+        if let Some(price) = positions.price(place, options.stack_limit) {
+            let on = pass_priced(&attempt, &positions, place, price, limit, work)?;
+            place = positions.next(on);
+            continue;
+        }
+        let found = try_position(&attempt, place, request.range_end, limit, cache, work)?;
         if let Some(found) = found {
             return Ok(Some(found));
         }
@@ -152,6 +158,18 @@ pub fn search(
         place = positions.next(from);
     }
     Ok(None)
+}
+
+/// How many positions are passed over together at most, by their prices. Past them a scan may go on faster.
+const TOGETHER: usize = 32;
+
+/// Positions of which it is told that attempts there find nothing.
+#[derive(Clone, Copy)]
+struct Priced {
+    /// The position after them.
+    past: usize,
+    /// The returns of attempts at them.
+    returns: usize,
 }
 
 /// The positions at which a search makes an attempt.
@@ -196,6 +214,54 @@ impl Positions<'_> {
         }
         self.entries
             .next(self.haystack, self.range_end, from, self.last)
+    }
+
+    /// What an attempt costs at a position, if it is told that it finds nothing there, and saves no more branches than so many.
+    #[inline]
+    fn price(&self, place: usize, most: usize) -> Option<Price>
+        requires inside { self.now.range_end ≤ length self.now.haystack.now }
+        ensures { IfSome result (IsToldAt (is_entry self.now.entries.now)
+            self.now.haystack.now self.now.range_end place) }
+    {
+        match self.entries.price(self.haystack, self.range_end, place) {
+            Some(price) if price.marks as usize <= most => Some(price),
+            _ => None,
+        }
+    }
+
+    /// How many positions may be passed over together by their prices: one where it seeks.
+    fn together(&self) -> usize
+        ensures some { 0 < result }
+        ensures few { result ≤ 32 }
+        ensures one { self.now.seek ≡ true → result ≡ 1 }
+    {
+        if self.seek { 1 } else { TOGETHER }
+    }
+
+    /// The positions from one on, of which this price is told, up to one of which none is told, or at which an attempt may save more
+    /// branches than so many.
+    #[inline(never)]
+    fn priced_from(self, from: usize, price: Price, most: usize) -> Priced
+        requires ordered { from ≤ self.last }
+        requires last { self.last ≤ self.range_end }
+        requires inside { self.range_end ≤ length self.haystack.now }
+        requires told { IsToldAt (is_entry self.entries.now)
+            self.haystack.now self.range_end from price }
+        ensures { ArePriced (is_entry self.entry.entries.now) self.entry.haystack.now
+            self.entry.range_end self.entry.seek self.entry.last from result }
+    {
+        let end = from + (self.last + 1 - from).min(self.together());
+        let mut returns = price.returns as usize;
+        for place in from + 1..end {
+            let Some(price) = self.price(place, most) else {
+                return Priced {
+                    past: place,
+                    returns,
+                };
+            };
+            returns += price.returns as usize;
+        }
+        Priced { past: end, returns }
     }
 }
 
@@ -243,39 +309,42 @@ fn pass_run(
     Ok(from + items)
 }
 
-/// Passes over a position where it is told that an attempt finds nothing, and counts the returns of one. At another position it makes
-/// the attempt, and also where that would save more branches than may be saved at one time.
-#[inline]
-fn pass_or_try(
+/// Passes over positions from one on, of which this price is told, where attempts find nothing, and counts their returns: the position
+/// after them.
+fn pass_priced(
     attempts: &Attempt,
     positions: &Positions,
-    position: usize,
+    from: usize,
+    price: Price,
     limit: usize,
-    cache: &mut Cache,
     work: &mut Work,
-) -> Result<Option<Found>, SearchRefusal>
+) -> Result<usize, SearchRefusal>
     ghost q: { Query }
-    requires asked { IsAsked q attempts.now positions.now.range_end position }
-    requires ready { IsReady attempts.now limit (seen_held cache.old) work.old }
+    requires asked { IsAsked q attempts.now positions.now.range_end from }
+    requires same { positions.now.haystack.now ≡ attempts.now.haystack.now }
+    requires last { (from ≤ positions.now.last) × (positions.now.last ≤ positions.now.range_end) }
+    requires tried { (positions.now.seek ≡ true → tried true q from ≡ true) }
+    requires room { returns_of work.old ≤ limit }
     requires entries { AreEntries (is_entry positions.now.entries.now) attempts.now.code.now }
     requires bytes { (k : ℕ) → slice_index attempts.now.haystack.now k < 256 }
-    ensures answers { Answers attempts.now.options limit
-        (attempt q position) (returns_at q position) (choices_at q position)
-        result cache.old cache.new work.old work.new }
-    ensures seen { KnowsSeen attempts.now (seen_held cache.new) }
+    requires told { IsToldAt (is_entry positions.now.entries.now)
+        attempts.now.haystack.now positions.now.range_end from price }
+    ensures passed { IfOk result (λ on. (from < on) × GoesPast q positions.now.seek
+        positions.now.last from on (returns_of work.new - returns_of work.old)) }
+    ensures refused { result ≡ Err SearchRefusal.Returns → limit
+        < returns_of work.old + returns_ahead q positions.now.seek positions.now.last from }
+    ensures bounded { returns_of work.new
+        ≤ returns_of work.old + returns_ahead q positions.now.seek positions.now.last from }
+    ensures saved { result ≢ Err SearchRefusal.Choices }
+    ensures counts { KeepsCounts work.old work.new }
+    ensures heeds { HeedsLimits limit attempts.now.options.step_limit result work.old work.new }
 {
-    let range_end = positions.range_end;
-    if let Some(price) = positions
-        .entries
-        .price(attempts.haystack, range_end, position)
-    {
-        if price.marks as usize <= attempts.options.stack_limit {
-            let step_limit = attempts.options.step_limit;
-            work.count_returns(price.returns as usize, limit, step_limit)?;
-            return Ok(None);
-        }
+    if price.marks == 0 && price.returns == 0 {
+        return Ok(from + 1);
     }
-    try_position(attempts, position, range_end, limit, cache, work)
+    let priced = positions.priced_from(from, price, attempts.options.stack_limit);
+    work.count_returns(priced.returns, limit, attempts.options.step_limit)?;
+    Ok(priced.past)
 }
 
 /// Makes one attempt alone, at a position from the effective start on. What is found is what [`search`] would take at this

@@ -14,7 +14,7 @@ ghost use Rattle.fancy_machine.specs.Runs.{past_items};
 
 use crate::attempt::Attempt;
 use crate::layer::{
-    Kind, Layer, cut, earlier, is_ended, is_ended_by_any, is_saved, region_by, take_last,
+    Kind, Layer, cut, earlier, is_ended, is_ended_by_any, is_saved, put_layer, region_by, take_last,
 };
 use crate::log::{Cell, Write, begin_cells, cell_at, forget_levels, has_span, thin, undo};
 use crate::runs::places_dead;
@@ -237,6 +237,7 @@ impl Trail {
     }
 
     /// One more layer, which is no saved branch.
+    #[inline]
     pub fn enter(&mut self, kind: Kind, at: usize) -> Result<(), AllocError>
         requires { saves kind ≡ 0 }
         ensures { LaysFrames result (frame_by kind (at_instr at self.old.now) ∷ self.old.frames)
@@ -253,12 +254,13 @@ impl Trail {
             log: self.log.len(),
             region: self.region,
         };
-        self.layers.push(layer)?;
+        put_layer(&mut self.layers, layer)?;
         self.region = region_by(layer, self.layers.len());
         Ok(())
     }
 
     /// One more layer, which is a saved branch.
+    #[inline]
     pub fn save(&mut self, kind: Kind, at: usize) -> Result<(), SearchRefusal>
         requires { saves kind ≡ 1 }
         ensures { SavesBranches result 1
@@ -278,7 +280,7 @@ impl Trail {
             log: self.log.len(),
             region: self.region,
         };
-        self.layers.push(layer)?;
+        put_layer(&mut self.layers, layer)?;
         self.branches += 1;
         self.region = region_by(layer, self.layers.len());
         Ok(())
@@ -315,7 +317,7 @@ impl Trail {
             log: self.log.len(),
             region: self.region,
         };
-        self.layers.push(layer)?;
+        put_layer(&mut self.layers, layer)?;
         self.branches += count;
         Ok(())
     }

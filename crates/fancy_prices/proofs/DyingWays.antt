@@ -10,7 +10,7 @@ use Rattle.fancy_code.specs.Run.{Raw, Note, Stop, choice_opened, returned, fetch
 use Rattle.fancy_code.proofs.RunMore.{past_end}
 use Rattle.fancy_prices.specs.declared.facts.Before.{Before}
 use Rattle.fancy_prices.specs.declared.facts.Facts.{Facts}
-use Rattle.fancy_prices.specs.Facts.{FailsWith, Stands}
+use Rattle.fancy_prices.specs.Facts.{FailsWith, HoldsWith, Stands}
 use Rattle.fancy_prices.specs.Prices.{MissesIn, Misses, Costs, Dies, FindsNone, IsQuietIn, Quiet, IsQuiet, BeginsNone}
 use Rattle.fancy_prices.proofs.BeginLemmas.{no_item}
 
@@ -150,6 +150,14 @@ module _ (code : List Instruction) (meaning : Meaning) (f : Facts) where
         by : (b : Bool) (o : Option (List Raw)) → b ≡ false → Costs 0 0 (if b then o else (Some []))
         by true o e = absurd (true≢false e)
         by false o e = (refl, refl)
+
+  -- a test that holds: what follows dies
+  pub dies_held : (m r at : ℕ) (a : Assertion) (next : ℕ) → instr_at code at ≡ Assert a next → HoldsWith a f → Dies code meaning f m r next → Dies code meaning f m r at
+  dies_held m r at a next is held h =
+      dies_by m r at (Assert a next) is (λ x limit n s v meant stands. by (holds x a s.place) (run x limit code n next s v) (held x s.place stands) (h x limit n s v meant stands)) where
+        by : (b : Bool) (o : Option (List Raw)) → b ≡ true → Costs m r o → Costs m r (if b then o else (Some []))
+        by true o e g = g
+        by false o e g = absurd (true≢false (sym e))
 
   pub dies_enter : (m r at body : ℕ) → instr_at code at ≡ Enter body → Dies code meaning f m r body → Dies code meaning f m r at
   dies_enter m r at body is h =

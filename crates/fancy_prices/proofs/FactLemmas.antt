@@ -20,8 +20,8 @@ use Rattle.fancy_meaning.proofs.WordCharacters.{ascii_word, unicode_word}
 use Rattle.fancy_prices.specs.declared.facts.Facts.{Facts}
 use Rattle.fancy_prices.specs.declared.facts.Before.{Before}
 use Rattle.fancy_prices.specs.declared.facts.Before.TheVariants.{LineFeed, CarriageReturn, Letter, Digit, Blank, Other, Wide}
-use Rattle.fancy_prices.proofs.FlagLemmas.{both, neither, off}
-use Rattle.fancy_prices.specs.Facts.{IsAlways, IsOfKind, Stands, TellsBefore, TellsHere, is_blank}
+use Rattle.fancy_prices.proofs.FlagLemmas.{both, neither, off, on}
+use Rattle.fancy_prices.specs.Facts.{FailsWith, HoldsWith, IsAlways, IsOfKind, Stands, TellsBefore, TellsHere, is_blank}
 
 -- an ASCII byte is of a word in each meaning, or in none
 word_byte : (m : Meaning) (c : ℕ) → c < 128 → in_named_set m Word c ≡ is_word_byte c
@@ -241,3 +241,12 @@ module _ (f : Facts) (k : Before) (before : f.before ≡ Some k) (a : Assertion)
       ap (λ (c : Assertion). holds x c p) e
       ∙ ap₂ (λ (s l : Bool). s || (l || (is_carriage_return (byte_before x.haystack p) && not (is_line_feed (slice_get x.haystack p))))) (not_at_start x.haystack p b.0 b.1) feed
       ∙ ap (λ (c : Bool). c && not (is_line_feed (slice_get x.haystack p))) return
+
+-- one assertion of a word's boundary holds where the other fails
+pub boundary_holds : (f : Facts) → FailsWith NotWordBoundary f → HoldsWith WordBoundary f
+unfolding holds
+boundary_holds f fails x p stands = on (holds x WordBoundary p) (fails x p stands)
+
+pub no_boundary_holds : (f : Facts) → FailsWith WordBoundary f → HoldsWith NotWordBoundary f
+unfolding holds
+no_boundary_holds f fails x p stands = ap not (fails x p stands)

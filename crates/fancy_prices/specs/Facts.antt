@@ -72,6 +72,10 @@ pub record Stands (f : Facts) (haystack : List ℕ) (p : ℕ) : Type 0 where
 abbrev pub FailsWith : Assertion → Facts → Type 0
 FailsWith a f = (x : Context) (p : ℕ) → Stands f x.haystack p → holds x a p ≡ false
 
+-- where they hold it does
+abbrev pub HoldsWith : Assertion → Facts → Type 0
+HoldsWith a f = (x : Context) (p : ℕ) → Stands f x.haystack p → holds x a p ≡ true
+
 -- if it is told, it is whether a word character stands before, in each meaning
 abbrev pub TellsBefore : Facts → Option Bool → Type 0
 TellsBefore f told =

@@ -4,7 +4,7 @@ ghost use Rattle.std.specs.Prelude.{◌≡◌, ℕ, ◌<◌, ◌≤◌, true, fa
 ghost use Rattle.fancy_input.specs.Lines.{is_line_feed, is_carriage_return};
 ghost use Rattle.unicode.specs.Perl.{is_word_byte};
 ghost use Rattle.fancy_prices.specs.Prices.{EndsNotWith, EndsOtherwise};
-ghost use Rattle.fancy_prices.specs.Facts.{FailsWith, IsAlways, IsOfKind, TellsBefore, TellsHere, bit_of, is_blank, number_of};
+ghost use Rattle.fancy_prices.specs.Facts.{FailsWith, HoldsWith, IsAlways, IsOfKind, TellsBefore, TellsHere, bit_of, is_blank, number_of};
 
 use fancy_tree::tree::{Assertion, Meaning};
 
@@ -284,6 +284,17 @@ impl Facts {
         ensures { result ≡ true → FailsWith assertion self }
     {
         self.fails_by_start(assertion) || self.fails_by_words(assertion)
+    }
+
+    /// Whether an assertion of a word's boundary holds. It is not told of each that does.
+    pub(crate) fn holds(self, assertion: Assertion) -> bool
+        ensures { result ≡ true → HoldsWith assertion self }
+    {
+        match assertion {
+            Assertion::WordBoundary => self.fails(Assertion::NotWordBoundary),
+            Assertion::NotWordBoundary => self.fails(Assertion::WordBoundary),
+            _ => false,
+        }
     }
 
     /// Whether an assertion of the text's start, or of a line's start, fails.

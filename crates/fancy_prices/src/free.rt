@@ -334,6 +334,9 @@ pub(crate) fn price_of(code: &Code, at: usize, facts: Facts, deep: usize) -> Opt
             if facts.fails(*assertion) {
                 return Some(Price::nothing());
             }
+            if facts.holds(*assertion) {
+                return price_of(code, *next, facts, deep);
+            }
             price_of(code, *next, facts, deep)?.if_nothing()
         }
         Instr::Open(_, next) | Instr::Close(_, next) => price_of(code, *next, facts, deep),

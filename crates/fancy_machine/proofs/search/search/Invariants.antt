@@ -27,8 +27,11 @@ invariant-loop-place g l = record {
 abbrev pub decreases-loop-place : goal.decreases-loop-place
 decreases-loop-place g l = l.last + 1 - l.place
 
-abbrev pub ghost-pass_or_try : goal.ghost-pass_or_try
-ghost-pass_or_try g a = g.q
+abbrev pub ghost-pass_priced : goal.ghost-pass_priced
+ghost-pass_priced g a = g.q
+
+abbrev pub ghost-try_position : goal.ghost-try_position
+ghost-try_position g a = g.q
 
 abbrev pub ghost-pass_run : goal.ghost-pass_run
 ghost-pass_run g a = g.q

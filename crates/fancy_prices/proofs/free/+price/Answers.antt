@@ -6,7 +6,7 @@ use Rattle.fancy_code.specs.Run.{instr_at}
 use Rattle.fancy_code.proofs.InstructionLemmas.{length-instrs_of}
 use Rattle.fancy_prices.specs.Prices.{Dies}
 use Rattle.fancy_prices.proofs.PriceForms.{chosen, same_price, still_nothing, told_nothing}
-use Rattle.fancy_prices.proofs.DyingWays.{dies_assert, dies_close, dies_deny, dies_enter, dies_keep, dies_look, dies_look_quiet, dies_nowhere, dies_open, dies_split, finds_none}
+use Rattle.fancy_prices.proofs.DyingWays.{dies_assert, dies_close, dies_deny, dies_enter, dies_held, dies_keep, dies_look, dies_look_quiet, dies_nowhere, dies_open, dies_split, finds_none}
 use Rattle.fancy_prices.proofs.BehindLemmas.{none_behind}
 use Rattle.fancy_prices.proofs.FoundBehind.{dies_denied}
 use Rattle.fancy_prices.proofs.free.+price.Goals as goal
@@ -15,6 +15,12 @@ pub price_of-returns-then-at-len : goal.price_of-returns-then-at-len
 price_of-returns-then-at-len t c =
     same_price (λ (m r : ℕ). Dies (instrs_of c.args.code.now) c.args.code.now.meaning c.args.facts m r c.args.at) c.nothing.result 0 0 c.nothing.ensures.0 c.nothing.ensures.1
     (dies_nowhere (instrs_of c.args.code.now) c.args.code.now.meaning c.args.facts c.args.at (omega (arith, c.if-at-len.true, c.len.ensures, length-instrs_of c.args.code.now)))
+
+pub price_of-returns-then-holds : goal.price_of-returns-then-holds
+price_of-returns-then-holds t c =
+    IfSome_then c.price_of.result c.price_of.ensures
+    (λ p dies. dies_held (instrs_of c.args.code.now) c.args.code.now.meaning c.args.facts p.marks p.returns c.args.at c.in-Assert.assertion c.in-Assert.next
+    (sym c.instr.ensures.instr ∙ ap (instr_in c.args.code.now) c.in-Assert.is) (c.holds.ensures c.if-holds.true) dies)
 
 pub price_of-returns-in_ok-price_of-in-Assert : goal.price_of-returns-in_ok-price_of-in-Assert
 price_of-returns-in_ok-price_of-in-Assert t c =

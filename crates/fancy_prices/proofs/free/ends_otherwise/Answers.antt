@@ -1,4 +1,4 @@
-use Rattle.std.proofs.Common.{ℕ, sym, subst}
+use Rattle.std.proofs.Common.{sym, subst}
 use Rattle.fancy_code.specs.Code.{instrs_of}
 use Rattle.fancy_prices.specs.declared.facts.Ending.{Ending}
 use Rattle.fancy_prices.specs.Prices.{StopsNeverBehind}
