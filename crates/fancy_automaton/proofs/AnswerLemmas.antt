@@ -9,7 +9,7 @@ use Rattle.fancy_meaning.specs.Context.{Context, State}
 use Rattle.fancy_code.specs.Compile.{IsCodeOf, AreEasy}
 use Rattle.fancy_code.specs.Run.{Raw, Note, Stop, Sign, choice_opened, returned, fetched, erase}
 use Rattle.fancy_code.specs.Thread.{IsKnown, thread_run, events_of, first_accepted, ends_well, pair_run}
-use Rattle.fancy_meaning.specs.Search.{Query, Answer, context_of, is_match_boundary, answer_at, answer_from}
+use Rattle.fancy_meaning.specs.Search.{Query, Answer, context_of, is_match_boundary, answer_at, answer_from, search}
 use Rattle.fancy_code.specs.Queries.{answer_with}
 use Rattle.fancy_code.specs.Thread.{empty_slot, slot_span, state_of, starts_of}
 use Rattle.fancy_code.proofs.EasyCode.{Alike, BothAlike, run_both}
@@ -167,3 +167,11 @@ module _ (q : Query) (code : Code) (is : IsCodeOf q.sought.pattern code) (groups
     by next true may None e = rest next e
     by next true may (Some s) e = subst (IsWhole (replicate code.groups None)) (sym (search_hit q (suc n) n p refl s e)) (whole_at p s (omega (arith, le)) may e)
     by next false may o e = rest next (search_skip q p first may)
+
+  -- what was found by its ends, which are those of the leftmost match, is the answer of the search
+  pub answered : (n p : ℕ) → p + n ≤ q.request.range_end + 1 → answer_from q n p ≡ search q → (found : Option Span)
+      → option_map ends_in found ≡ leftmost Good x q.request.range_end (instrs_of code) Deep code.start n p
+      → answer_with (replicate code.groups None) (option_map at_position found) ≡ search q
+  answered n p le all found ends =
+      found_by_ends (replicate code.groups None) found (search q) (subst (IsWhole (replicate code.groups None)) all (whole_is n p le))
+      (ends ∙ leftmost_is n p le ∙ ap (option_map ends_of) all)

@@ -1,6 +1,6 @@
 //! The attempt at one place: all ways begin there, and none at a later one.
 
-ghost use Rattle.std.specs.Prelude.{◌≡◌, ◌+◌, ◌-◌, ◌*◌, ◌<◌, ◌≤◌, ◌≢◌, [], ℕ, false, true, IfOk, length, option_map};
+ghost use Rattle.std.specs.Prelude.{◌≡◌, ◌+◌, ◌-◌, ◌*◌, ◌<◌, ◌≤◌, ◌≢◌, [], ℕ, false, true, IfOk, IfSome, length, option_map};
 ghost use Rattle.fancy_code.specs.Attempt.{may_end_in};
 ghost use Rattle.fancy_code.specs.CodeLength.{code_len};
 ghost use Rattle.fancy_input.specs.Work.{steps_of};
@@ -17,9 +17,12 @@ use fancy_code::attempt::Attempt;
 use fancy_input::span::Span;
 use fancy_input::work::Work;
 use fancy_meaning::options::is_match_boundary;
-use fancy_states::cells::{Cells, origin, restart, seen_at, step_at};
+use fancy_states::cells::{Cells, has_origin, origin, restart, seen_at, step_at};
 use fancy_states::trail::span_from;
 use std::alloc::AllocError;
+
+/// An attempt that is told by remembered steps alone reads on at most so many bytes past its match.
+const FAR_PAST: usize = 32;
 
 /// Whether a match may begin at a place, by the byte that stands there.
 fn may_begin(attempt: &Attempt, place: usize) -> bool
@@ -61,6 +64,12 @@ fn is_idle(cells: &Cells, at: Stand) -> bool
     ensures some { result ≡ false → ways_at cells.now.rows.lists.items at.next ≢ [] }
 {
     cells.rows.lists[at.next].len() == 0
+}
+
+/// Whether a walk went on far past where its match ends, or if it found none, past its start.
+fn reads_far_past(to: Sole) -> bool {
+    let end = to.end.unwrap_or(to.start);
+    to.stand.place.saturating_sub(end) > FAR_PAST
 }
 
 /// Where the match ends after a step at a place: there, if one is found, since what goes on is preferred to what was found.
@@ -148,6 +157,44 @@ fn advance(
         return Ok(to);
     }
     Ok(lengthen(attempt, cells, to))
+}
+
+/// Where the match begins and ends that begins at the first place, if there is one, as far as steps tell that are remembered. `None`
+/// where they do not.
+#[inline(always)]
+pub(crate) fn span_told(attempt: &Attempt, cells: &Cells) -> Option<Option<Span>>
+    requires ordered { attempt.now.base ≤ attempt.now.last }
+    requires followed { IsFollowed attempt.now }
+    requires kept { HoldsFor cells.now attempt.now.code.now }
+    ensures { IfSome result (λ found. (deep : ℕ) → BegunIn attempt.now deep
+        → option_map ends_in found ≡ attempt_goal attempt.now deep) }
+{
+    let place = attempt.base;
+    if !has_origin(attempt.code, cells) {
+        return None;
+    }
+    if !is_match_boundary(attempt.on_boundaries, attempt.haystack, place) {
+        return None;
+    }
+    let begun = cells.alone;
+    let from = Sole {
+        stand: Stand {
+            place,
+            next: begun,
+            begun,
+            opened: row_start(attempt, cells, place, begun),
+        },
+        start: place,
+        end: None,
+    };
+    let to = lengthen(attempt, cells, from);
+    if !is_idle(cells, to.stand) {
+        return None;
+    }
+    if reads_far_past(to) {
+        return None;
+    }
+    Some(span_from(to.start, to.end))
 }
 
 /// Where the match begins and ends that begins at the first place, if there is one. No way begins at a later place.

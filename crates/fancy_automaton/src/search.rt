@@ -1,6 +1,6 @@
 //! Searches by the automaton: the match that the runner finds, for code without groups.
 
-ghost use Rattle.std.specs.Prelude.{◌≡◌, ◌+◌, ◌-◌, ◌*◌, ◌≤◌, ℕ, Bool, None, if◌then◌else◌, IfOk, IfErr, length, option_map, replicate};
+ghost use Rattle.std.specs.Prelude.{◌≡◌, ◌+◌, ◌-◌, ◌*◌, ◌≤◌, ℕ, Bool, None, if◌then◌else◌, true, IfOk, IfErr, IfSome, length, option_map, replicate};
 ghost use Rattle.fancy_tree.specs.Pattern.{Pattern};
 ghost use Rattle.fancy_input.specs.Requests.{effective_start};
 ghost use Rattle.fancy_code.specs.Code.{instrs_of};
@@ -16,7 +16,7 @@ ghost use Rattle.fancy_states.specs.Search.{BegunIn, KeepsPlaces, at_position, e
 ghost use Rattle.fancy_states.specs.Counts.{AddsSteps};
 ghost use Rattle.fancy_automaton.specs.Sole.{IsSole};
 
-use crate::anchored::span_at;
+use crate::anchored::{span_at, span_told};
 use crate::follow::{Sole, follow, next_place};
 use crate::front::Front;
 use fancy_code::attempt::Attempt;
@@ -184,6 +184,42 @@ pub fn find(
     cells.room = ROOM.saturating_add(haystack.len().min(MORE_ROOM));
     let found = span_in(&attempt, request.anchored, cells, work)?;
     Ok(found_by(found))
+}
+
+/// The match that [`find`] finds for an anchored request, as far as steps tell it that `cells` remembers. `None` where they do not,
+/// and where they read far past it.
+#[inline(always)]
+pub fn find_told(
+    code: &Code,
+    haystack: &[u8],
+    request: Request,
+    options: SearchOptions,
+    cells: &Cells,
+) -> Option<Option<Found>>
+    requires inside { request.range_end ≤ length haystack.now }
+    requires anchored { request.anchored ≡ true }
+    requires plain { ArePlain (instrs_of code.now) }
+    requires reads { KeepsPlaces haystack.now code.now.meaning options.on_boundaries }
+    requires kept { HoldsFor cells.now code.now }
+    ensures { IfSome result (λ found. (p : Pattern) (on : Bool) → IsCodeOf p code.now
+        → answer_with (replicate code.now.groups None) found
+        ≡ search (query_of p code.now (unfiltered options) haystack.now request on)) }
+{
+    let first = request.effective_start();
+    if first > request.range_end {
+        return None;
+    }
+    let attempt = Attempt {
+        code,
+        haystack,
+        base: first,
+        last: request.range_end,
+        on_boundaries: options.on_boundaries,
+        suppressed: options.suppressed_ends(request),
+        step_limit: None,
+    };
+    let found = span_told(&attempt, cells)?;
+    Some(found_by(found))
 }
 
 /// A match that starts at its position.

@@ -267,6 +267,26 @@ pub fn find_one_item(
     regex.program.read_one_item(asked, position, cache)
 }
 
+/// The match that an attempt at one position finds, as [`find_in_list`], where what attempts before found out tells it: no step is
+/// counted then, and no limit is met. `None` elsewhere.
+pub fn find_told(
+    regex: &Regex,
+    asked: &Asked<'_>,
+    position: usize,
+    notes: &AttemptNotes,
+    cache: &mut Cache,
+) -> Option<Option<Found>>
+    requires starts { effective_start asked.now.request ≤ position }
+    requires ends { position ≤ asked.now.request.range_end }
+    requires notes { KeepsNotes (program_in regex.now)
+        asked.now.haystack.now asked.now.request position notes.now }
+    ensures easy { IfSome result (λ _. easy_in regex.now ≡ true) }
+    ensures found { IfSome result (λ m.
+        IsAttemptIn m cache.new (query_in (program_in regex.now) asked.now) position) }
+{
+    regex.program.find_told(asked, position, notes, cache)
+}
+
 /// The groups of a match in the haystack that [`find_at`] found, as it left them in `cache`.
 ///
 /// It is refused where memory runs out (`Memory`).

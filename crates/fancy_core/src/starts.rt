@@ -1,7 +1,7 @@
-//! Where a match of a regex may start, by bytes further on.
+//! Where a match of a regex may start, by bytes further on, and where it may end.
 
-ghost use Rattle.std.specs.Prelude.{◌≡◌, false};
-ghost use Rattle.fancy_core.specs.RegexStarts.{NoneHolds};
+ghost use Rattle.std.specs.Prelude.{◌≡◌, false, true};
+ghost use Rattle.fancy_core.specs.RegexStarts.{EndsByOneItem, NoneHolds};
 
 use crate::regex::Regex;
 
@@ -18,4 +18,17 @@ pub fn may_hold(regex: &Regex, place: usize, byte: u8) -> bool
     ensures { result ≡ false → NoneHolds regex.now place byte }
 {
     regex.program.may_hold(place, byte)
+}
+
+/// Whether the pattern is one item, as far as this is told, so that no match goes past an ASCII character that it starts with. For a
+/// regex that is not easy the answer is `false`.
+///
+/// ```text
+/// is_one_item(&Regex::new(alloc, "[a-z]")?)     // true
+/// is_one_item(&Regex::new(alloc, "[a-z]+")?)    // false
+/// ```
+pub fn is_one_item(regex: &Regex) -> bool
+    ensures { result ≡ true → EndsByOneItem regex.now }
+{
+    regex.program.is_one_item()
 }

@@ -221,6 +221,10 @@ pub all_held : (width : ℕ) (members : List Regex) (place byte n : ℕ) (groups
     → HoldAhead width members place byte groups
 all_held width members place byte n groups all hold k r is out = hold k r (let inside = slice_get_within members k r is in omega (arith, inside, all)) is out
 
+pub left_both : (a b : Bool) → (a && b) ≡ true → a ≡ true
+left_both true b e = refl
+left_both false b e = e
+
 either_out : (a b : Bool) → (a && b) ≡ false → (a ≡ false) ⊎ (b ≡ false)
 either_out true b e = inr e
 either_out false b e = inl refl

@@ -1,13 +1,15 @@
 -- Members of a set that may not start at a position are passed over, and have no answer there.
-use Rattle.std.proofs.Common.{◌≡◌, ℕ, zero, suc, ◌+◌, ◌<◌, ◌≤◌, Bool, true, false, List, [], ◌∷◌, Option, Some, None, is_some, length, slice_get, slice_index, take, inl, inr, refl, sym, ap, subst, ◌∙◌, arith, true≢false}
+use Rattle.std.proofs.Common.{◌≡◌, ℕ, zero, suc, ◌+◌, ◌<◌, ◌≤◌, ◌/◌, Bool, true, false, List, [], ◌∷◌, Option, Some, None, MatchOption, is_some, length, slice_get, slice_index, slice_index_or, take, inl, inr, refl, sym, ap, subst, ◌∙◌, arith, true≢false}
 use Rattle.std.proofs.lemmas.Bool.Decides.{leb_tells}
-use Rattle.std.proofs.lemmas.Option.{get_or_from_slice_get}
+use Rattle.std.proofs.lemmas.Option.{get_or_from_slice_get, slice_get_within}
+use Rattle.std.proofs.Math.Nat.{div-one}
 use Rattle.fancy_meaning.specs.Search.{answer_at}
 use Rattle.fancy_search.proofs.StartLemmas.{none_before}
 use Rattle.fancy_core.specs.declared.regex.Regex.{Regex}
 use Rattle.fancy_core.specs.RegexStarts.{regex_may_start}
 use Rattle.fancy_regex.specs.declared.set.candidates.Groups.{Groups}
-use Rattle.fancy_regex.specs.Candidates.{HoldAllAt, IsPassed, by_byte, by_later, NoMemberBetween, NoStarterBetween}
+use Rattle.fancy_regex.specs.declared.set.candidates.Candidates.{Candidates}
+use Rattle.fancy_regex.specs.Candidates.{has_group, AreOfStarters, HoldAllAt, HoldNoOthers, HoldOnly, IsPassed, TellStarters, by_byte, by_later, IsNextGroup, NoGroupFrom, NoMemberBetween, NoStarterBetween, IsNextStarter}
 use Rattle.fancy_regex.specs.SetMembers.{SetQuery, asked, has_answer_at, NoneBetween, MayStartAt}
 
 module _ (members : List Regex) (searched : List ℕ) (p : ℕ) where
@@ -48,6 +50,52 @@ module _ (members : List Regex) (searched : List ℕ) (p : ℕ) where
             subst (λ (y : Regex). IsPassed y searched p) (sym equal) (by_byte fails))
         | inr before ↦ none k x le before.1 is
       ]
+
+-- what an option says, said otherwise
+pub mapped : {A : Type 0} (o : Option A) (P R : Type 0) (Q S : A → Type 0) → (P → R) → ((x : A) → Q x → S x) → MatchOption o P Q → MatchOption o R S
+mapped None P R Q S none some is = none is
+mapped (Some x) P R Q S none some is = some x is
+
+-- where each member has a group of its own
+module _ (members : List Regex) (searched : List ℕ) (p width : ℕ) (apart : width ≡ 1) (groups : Groups) (all : HoldAllAt width members searched p groups) (from : ℕ) where
+  own : (k : ℕ) → k / width ≡ k
+  own k = rw apart (div-one k)
+
+  pub none_apart : (to : ℕ) → NoGroupFrom groups from → NoStarterBetween members searched p from to
+  none_apart to none =
+      in_no_group members searched p width groups all from to
+      (λ k le below. subst (λ (g : ℕ). has_group groups g ≡ false) (sym (own k)) (none k le))
+
+  pub next_apart : (k : ℕ) → AreOfStarters members (slice_get searched p) groups → IsNextGroup groups from k → IsNextStarter members searched p from k
+  next_apart k only next = record {
+    reached = next.reached;
+    inside = (only k next.there).0;
+    starts = (only k next.there).1;
+    none = in_no_group members searched p width groups all from k
+        (λ j le below. subst (λ (g : ℕ). has_group groups g ≡ false) (sym (own j)) (next.none j le below));
+  }
+
+-- the groups for each byte, and for none
+none_others : (members : List Regex) (c : Candidates) → HoldOnly c.width members None c.at_end
+    → ((b : ℕ) → b < 256 → HoldOnly c.width members (Some b) (slice_index_or c.by_byte b c.at_end)) → HoldNoOthers members c
+none_others members c end bytes None small = end
+none_others members c end bytes (Some b) small = bytes b small
+
+-- the groups of starters, where each member has a group of its own
+pub tell_starters : (members : List Regex) (c : Candidates) → HoldOnly c.width members None c.at_end
+    → ((b : ℕ) → b < 256 → HoldOnly c.width members (Some b) (slice_index_or c.by_byte b c.at_end)) → TellStarters members c
+tell_starters members c end bytes = record {
+  tells = λ apart next small g there.
+      (let starter = none_others members c end bytes next small g there in
+      let same : starter.index ≡ g = sym (div-one starter.index) ∙ ap (λ (n : ℕ). starter.index / n) (sym apart) ∙ starter.grouped in
+      let is : slice_get members g ≡ Some starter.member = subst (λ (i : ℕ). slice_get members i ≡ Some starter.member) same starter.is in (
+        slice_get_within members g starter.member is,
+        λ r here.
+            (let both : Some starter.member ≡ Some r = sym is ∙ here in
+            let equal : starter.member ≡ r = cc in
+            subst (λ (y : Regex). regex_may_start y next ≡ true) equal starter.starts),
+      ));
+}
 
 pub none_one_more : (q : SetQuery) (p from n : ℕ) → NoneBetween q p from n → has_answer_at q p n ≡ false → NoneBetween q p from (n + 1)
 none_one_more q p from n none fails k le below =

@@ -1,17 +1,19 @@
 -- The longest match at a place, as the members are gone through.
 use Rattle.std.proofs.Common.{◌≡◌, ℕ, ◌+◌, ◌<◌, ◌≤◌, false, true, List, Option, Some, None, slice_get, slice_index, take, length, inl, inr, refl, sym, ap, subst, ◌∙◌, arith, true≢false}
 use Rattle.std.proofs.lemmas.Bool.Decides.{leb_tells}
+use Rattle.std.proofs.lemmas.List.{get_or-take}
 use Rattle.std.proofs.lemmas.Option.{same_Some}
 use Rattle.fancy_meaning.specs.Search.{Answer}
 use Rattle.fancy_core.specs.Limited.{AllowsAt}
 use Rattle.fancy_core.specs.declared.regex.Regex.{Regex}
-use Rattle.fancy_core.specs.RegexStarts.{regex_may_start}
+use Rattle.fancy_core.specs.RegexStarts.{EndsByOneItem, regex_may_start}
 use Rattle.fancy_regex.specs.declared.tokens.token.Token.{Token}
 use Rattle.fancy_regex.specs.Candidates.{IsPassed, by_byte, by_later, NoStarterBetween}
 use Rattle.fancy_regex.specs.SetMembers.{SetQuery, asked}
 use Rattle.fancy_regex.specs.TokenLists.{token_pattern}
 use Rattle.fancy_regex.specs.Tokens.{TokenItem, placed_at, found_by_member, candidate_at, token_at, KeepLimits, KeepsLimitAt}
 use Rattle.fancy_regex.specs.LongestMatches.{IsTokenTo, IsLongest, IsLongestIfAny, IsTokenGiven}
+use Rattle.fancy_regex.proofs.TokenGivenLemmas.{found_as_attempted}
 use Rattle.fancy_regex.proofs.TokenLemmas.{candidate_is, not_found, fails_there, token_given, no_token}
 use Rattle.fancy_regex.proofs.SetCandidateLemmas.{none_starts}
 
@@ -64,6 +66,18 @@ module _ {S : Type 0} {g : _} (q : SetQuery) (haystack : S) (p : ℕ) where
       let most = short c.0 c.1 c.2.kept in
       let ends = c.2.end in
       omega (arith, most, ends))
+      is
+
+  -- a member of one item, where a match was found that starts with an ASCII byte
+  pub passed_one : (searched : List ℕ) → searched ≡ take q.request.range_end q.haystack → (n end : ℕ) (o : Option (Token S g)) (r : Regex) → slice_get q.members n ≡ Some r → EndsByOneItem r
+      → q.request.range_end ≤ length q.haystack → p < q.request.range_end → slice_index searched p < 128 → p < end → IsLongestIfAny q haystack p n end o → IsLongestIfAny q haystack p (n + 1) end o
+  passed_one searched there n end o r member one inside within low past is =
+      let taken : slice_index (take q.request.range_end q.haystack) p < 128 = subst (λ (s : List ℕ). slice_index s p < 128) there low in
+      let same = get_or-take q.request.range_end q.haystack p 0 within in
+      passed_short n end o
+      (λ a found kept.
+      let most = one.ends q.haystack (placed_at q p).request true p a inside within (omega (arith, taken, same)) (sym (found_as_attempted q p n r member) ∙ found) in
+      omega (arith, most, past))
       is
 
   -- a member whose match is longer than the longest so far
@@ -127,6 +141,10 @@ module _ (q : SetQuery) (p : ℕ) where
             allowed r (subst (λ x. slice_get q.members x ≡ Some r) (sym same) is))
         | inr before ↦ keep k r before.1 is may
       ]
+
+  -- an easy member keeps within its limit
+  pub limits_of_one : (n : ℕ) (r : Regex) → slice_get q.members n ≡ Some r → EndsByOneItem r → KeepLimits q p n → KeepLimits q p (n + 1)
+  limits_of_one n r member one keep = limits_more n keep (λ other is hard. absurd (true≢false (sym (subst (λ (x : Regex). EndsByOneItem x) (same_Some r other (sym member ∙ is)) one).easy ∙ hard)))
 
   pub limits_over : (searched : List ℕ) → searched ≡ take q.request.range_end q.haystack → (n m : ℕ) → NoStarterBetween q.members searched p n m → KeepLimits q p n → KeepLimits q p m
   limits_over searched there n m none keep k r below is may =

@@ -71,6 +71,15 @@ HoldAllAt width members searched p groups = (k : ℕ) (r : Regex) → slice_get 
 abbrev pub HoldNoOthers : List Regex → Candidates → Type 0
 HoldNoOthers members c = (next : Option ℕ) → IfSome next (λ b. b < 256) → HoldOnly c.width members next (groups_before c next)
 
+-- each of the groups is that of a member alone, which may start right before this byte, or before none
+abbrev pub AreOfStarters : List Regex → Option ℕ → Groups → Type 0
+AreOfStarters members next groups =
+    (g : ℕ) → has_group groups g ≡ true → (g < length members) × ((r : Regex) → slice_get members g ≡ Some r → regex_may_start r next ≡ true)
+
+-- where each member has a group of its own, the tables have those of starters
+pub record TellStarters (members : List Regex) (c : Candidates) : Type 0 where
+  pub tells : c.width ≡ 1 → (next : Option ℕ) → IfSome next (λ b. b < 256) → AreOfStarters members next (groups_before c next)
+
 -- no member with an index from the one on and below the other is in one of the groups
 abbrev pub NoMemberBetween : ℕ → Groups → ℕ → ℕ → Type 0
 NoMemberBetween width groups from to = (k : ℕ) → from ≤ k → k < to → has_group groups (k / width) ≡ false

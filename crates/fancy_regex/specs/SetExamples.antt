@@ -1,5 +1,5 @@
 -- A small set and small lists of tokens that are known from elsewhere.
-use Rattle.std.specs.Prelude.{◌≡◌, ℕ, List, [], ◌∷◌, Option, Some, None, codes}
+use Rattle.std.specs.Prelude.{◌≡◌, ℕ, List, [], ◌∷◌, Some, None, codes}
 use Rattle.fancy_tree.specs.Pattern.{Pattern, followed}
 use Rattle.fancy_input.specs.Requests.{whole}
 use Rattle.fancy_meaning.specs.Examples.{example_query, a, b, a_or_ab}

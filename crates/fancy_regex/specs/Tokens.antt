@@ -1,5 +1,5 @@
 -- The tokens that a pattern set cuts a text into: at each place the longest match that starts there, and then the next one where it ends.
-use Rattle.std.specs.Prelude.{◌≡◌, ◌≤◌, ◌<◌, ◌==◌, ◌&&◌, ℕ, zero, suc, List, [], ◌∷◌, ◌++◌, Option, Some, None, filter_map, nat_lt, slice_get, slice_range, take, true, if◌then◌else◌}
+use Rattle.std.specs.Prelude.{◌≡◌, ◌≤◌, ◌<◌, ◌==◌, ◌&&◌, ℕ, zero, suc, List, [], ◌∷◌, ◌++◌, Option, Some, None, filter_map, nat_lt, slice_get, slice_range, true, if◌then◌else◌}
 use Rattle.std.specs.Option.{option_and_then}
 use Rattle.fancy_meaning.specs.Search.{Answer, attempt}
 use Rattle.fancy_core.specs.declared.regex.Regex.{Regex}

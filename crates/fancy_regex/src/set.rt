@@ -4,7 +4,7 @@ ghost use Rattle.std.specs.Prelude.{◌≡◌, ◌==◌, ◌↔◌, IfOk, IfErr,
 ghost use Rattle.fancy_search.specs.Options.{by_default};
 ghost use Rattle.fancy_core.specs.Built.{IsReading};
 ghost use Rattle.fancy_regex.specs.Builders.{options_of};
-ghost use Rattle.fancy_regex.specs.Candidates.{AreCandidatesOf};
+ghost use Rattle.fancy_regex.specs.Candidates.{AreCandidatesOf, TellStarters};
 
 mod borrowed_text;
 mod candidates;
@@ -34,6 +34,7 @@ pub struct RegexSet {
     pub(crate) members: Vec<Regex>,
     pub(crate) candidates: Candidates,
     ghost listed: { AreCandidatesOf members.items candidates },
+    ghost told: { TellStarters members.items candidates },
 }
 
 /// By hand, so that crates above do not prove it once more.

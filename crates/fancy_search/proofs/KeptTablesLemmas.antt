@@ -25,7 +25,7 @@ use Rattle.fancy_search.specs.declared.program.Program.{Program}
 use Rattle.fancy_search.specs.declared.cache.Kept.{Kept}
 use Rattle.fancy_search.specs.declared.cache.Kept.TheVariants.{Nothing, Runner, Steps, Lines}
 use Rattle.fancy_search.specs.Options.{search_options}
-use Rattle.fancy_search.specs.KeptTables.{KeepsTable, KeepsSteps, KeepsLines, KeepsNotes, HoldsSteps, IsKeptIn, KeepsOn, table_kept, is_steps, keeps_no_table, kept_from}
+use Rattle.fancy_search.specs.KeptTables.{KeepsTable, KeepsSteps, KeepsLines, KeepsNotes, HoldsSteps, IsKeptIn, KeepsOn, table_kept, keeps_no_table, kept_from}
 
 -- what is kept for a place is kept for a later one, whichever positions are tried
 pub kept_later : (code : Code) (haystack : List ℕ) (request : Request) (options : SearchOptions) (kept : KeptTable) (place later start : ℕ) (anchored : Bool) (notes : Notes) → place ≤ later
@@ -159,6 +159,12 @@ noted_steps program haystack request place notes steps holds = rw (no_table note
   no_table (Runner (Some k)) e = absurd (true≢false (sym e))
   no_table Steps e = refl
   no_table Lines e = refl
+
+-- the steps that are held, where these are lent
+pub steps_held : (program : Program) (held : Option (Box RememberedSteps Global)) (steps : RememberedSteps) → IfSome held (λ h. steps ≡ h.value)
+    → HoldsSteps program held → KeepsSteps program steps.cells
+steps_held program None steps lent is = let never : false ≡ true = is.0 in cc
+steps_held program (Some h) steps lent is = subst (λ (s : RememberedSteps). KeepsSteps program s.cells) (sym lent) is.1
 
 -- the steps that were held are taken out
 pub steps_taken : (program : Program) (held : Option (Box RememberedSteps Global)) (taken : Box RememberedSteps Global) → IfSome held (λ b. taken ≡ b) → HoldsSteps program held → KeepsSteps program taken.value.cells

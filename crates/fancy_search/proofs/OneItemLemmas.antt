@@ -1,5 +1,5 @@
 -- Code of one item: its one outcome is past the item.
-use Rattle.std.proofs.Common.{cond, ◌&&◌, ◌≡◌, ℕ, zero, suc, ◌+◌, ◌≤◌, Bool, true, false, List, [], ◌∷◌, length, Option, Some, None, if◌then◌else◌, nat_le, refl, sym, ap, subst, ◌∙◌, replicate}
+use Rattle.std.proofs.Common.{cond, ◌&&◌, ◌==◌, ◌≡◌, ℕ, zero, suc, ◌+◌, ◌<◌, ◌≤◌, Bool, true, false, List, [], ◌∷◌, length, Option, Some, None, if◌then◌else◌, nat_le, refl, sym, ap, subst, ◌∙◌, arith, slice_index, slice_get, replicate}
 use Rattle.std.specs.List.{filter}
 use Rattle.std.specs.Prelude.{option_map}
 use Rattle.std.proofs.lemmas.List.{length-replicate}
@@ -7,7 +7,14 @@ use Rattle.std.proofs.lemmas.Option.{get_or_from_slice_get, same_Some}
 use Rattle.fancy_code.specs.declared.code.Code.{Code}
 use Rattle.fancy_code.specs.Code.{instrs_of}
 use Rattle.fancy_code.specs.Compile.{IsCodeOf, depth}
-use Rattle.fancy_meaning.specs.Context.{Context, State, moved_to, unit_at, past_item, past_byte}
+use Rattle.std.proofs.lemmas.Bool.Decides.{nat_tests}
+use Rattle.std.specs.Char.{len_utf8}
+use Rattle.fancy_tree.specs.declared.tree.Meaning.{Meaning}
+use Rattle.fancy_tree.specs.declared.tree.Meaning.TheVariants.{Unicode, Bytes, AsciiText}
+use Rattle.fancy_tree.specs.Sets.{has}
+use Rattle.fancy_input.specs.Places.{char_at}
+use Rattle.fancy_input.proofs.CharacterLemmas.{char_at-ascii}
+use Rattle.fancy_meaning.specs.Context.{Context, State, Unit_at, moved_to, unit_in, unit_at, one_character, one_byte, past_item, past_byte, option_to}
 use Rattle.fancy_meaning.specs.Events.{Event, stay, move, outcomes_in}
 use Rattle.fancy_code.specs.Instructions.{Instruction, Match, Fail, Character, Member, RawByte, Assert, Split, Open, Close, Enter, Commit, Look, Deny, Test, Back, Recall, Keep, Continue, Taken}
 use Rattle.fancy_code.specs.Run.{Raw, Note, Stop, fetched, Go, before, onward, instr_at, act, run, erase}
@@ -16,8 +23,8 @@ use Rattle.fancy_meaning.specs.Trace.{outcomes}
 use Rattle.fancy_code.proofs.WholeCode.{program_gives}
 use Rattle.fancy_search.specs.declared.asked.Asked.{Asked}
 use Rattle.fancy_search.specs.declared.program.Program.{Program}
-use Rattle.fancy_search.specs.OneItem.{ReadsOne, answer_to}
-use Rattle.fancy_search.specs.Programs.{query_in}
+use Rattle.fancy_search.specs.OneItem.{EndsByOne, IsOneItem, ReadsOne, answer_to}
+use Rattle.fancy_search.specs.Programs.{program_is_easy, asked_of, query_in}
 use Rattle.fancy_search.proofs.SearchedLemmas.{known}
 
 module _ (x : Context) (limit : ℕ) (code : List Instruction) (matching : instr_at code 0 ≡ Match) (s : State) (v : List ℕ) where
@@ -120,3 +127,97 @@ same_item x y test p meaning haystack = rw (meaning, haystack) refl
 pub same_byte : (x y : Context) (byte p : ℕ) → x.haystack ≡ y.haystack → past_byte x byte p ≡ past_byte y byte p
 unfolding past_byte
 same_byte x y byte p haystack = rw haystack refl
+
+-- where an ASCII byte stands, what was read ends past it
+same_width : (u w : Unit_at) → Some u ≡ Some w → u.width ≡ w.width
+same_width u w e = ap (λ (x : Unit_at). x.width) (same_Some u w e)
+
+low_width : (c : ℕ) → c < 128 → len_utf8 c ≡ 1
+low_width c low = grind (arith, nat_tests)
+
+character_by : (c : ℕ) (o : Option ℕ) (u : Unit_at) → o ≡ Some c → c < 128 → one_character o ≡ Some u → u.width ≡ 1
+character_by c None u is low e = cc
+character_by c (Some d) u is low e =
+    let same : d ≡ c = same_Some d c is in
+    sym (same_width (record { code = d; width = len_utf8 d }) u e) ∙ low_width d (omega (arith, low, same))
+
+one_byte_by : (o : Option ℕ) (u : Unit_at) → one_byte o ≡ Some u → u.width ≡ 1
+one_byte_by None u e = cc
+one_byte_by (Some b) u e = sym (same_width (record { code = b; width = 1 }) u e)
+
+width_by : (m : Meaning) (haystack : List ℕ) (p : ℕ) → p < length haystack → slice_index haystack p < 128 → (u : Unit_at) → unit_in m haystack p ≡ Some u → u.width ≡ 1
+width_by Unicode haystack p inside low u e = character_by (slice_index haystack p) (char_at haystack p) u (char_at-ascii haystack p inside low) low e
+width_by Bytes haystack p inside low u e = one_byte_by (slice_get haystack p) u e
+width_by AsciiText haystack p inside low u e = character_by (slice_index haystack p) (char_at haystack p) u (char_at-ascii haystack p inside low) low e
+
+read_by : (p end : ℕ) (b : Bool) (u : Unit_at) → u.width ≡ 1 → (if b then Some (p + u.width) else None) ≡ Some end → end ≤ p + 1
+read_by p end true u one e = let same : p + u.width ≡ end = cc in omega (arith, same, one)
+read_by p end false u one e = cc
+
+item_by : (x : Context) (test : ℕ → Bool) (p end : ℕ) → p < length x.haystack → slice_index x.haystack p < 128 → past_item x test p ≡ Some end → end ≤ p + 1
+unfolding past_item unit_at
+item_by x test p end inside low e = at (unit_in x.meaning x.haystack p) refl e where
+  at : (o : Option Unit_at) → unit_in x.meaning x.haystack p ≡ o → option_to o None (λ u. if test u.code then Some (p + u.width) else None) ≡ Some end → end ≤ p + 1
+  at None is e = cc
+  at (Some u) is e = read_by p end (test u.code) u (width_by x.meaning x.haystack p inside low u is) e
+
+byte_by : (x : Context) (byte p end : ℕ) → past_byte x byte p ≡ Some end → end ≤ p + 1
+unfolding past_byte
+byte_by x byte p end e = at (slice_get x.haystack p) e where
+  if_it : (b : Bool) → (if b then Some (p + 1) else None) ≡ Some end → end ≤ p + 1
+  if_it true e = let same : p + 1 ≡ end = cc in omega (arith, same)
+  if_it false e = cc
+
+  at : (o : Option ℕ) → option_to o None (λ b. if b == byte then Some (p + 1) else None) ≡ Some end → end ≤ p + 1
+  at None e = cc
+  at (Some b) e = if_it (b == byte) e
+
+-- an item that is read, and where that ends
+record ItemRead (x : Context) (i : Instruction) (p : ℕ) : Type 0 where
+  past : Option ℕ
+  reads : ReadsOne x i p past
+  ends : (end : ℕ) → past ≡ Some end → p < length x.haystack → slice_index x.haystack p < 128 → end ≤ p + 1
+
+item_read : (x : Context) (i : Instruction) (p : ℕ) → IsOneItem i → ItemRead x i p
+item_read x (Character c next) p first = record { past = past_item x (λ d. d == c) p; reads = (first, refl); ends = λ end e inside low. item_by x (λ d. d == c) p end inside low e }
+item_read x (Member edges next) p first = record { past = past_item x (has edges) p; reads = (first, refl); ends = λ end e inside low. item_by x (has edges) p end inside low e }
+item_read x (RawByte byte next) p first = record { past = past_byte x byte p; reads = (first, refl); ends = λ end e inside low. byte_by x byte p end e }
+item_read x Match p never = absurd never
+item_read x Fail p never = absurd never
+item_read x (Assert a next) p never = absurd never
+item_read x (Split a b) p never = absurd never
+item_read x (Open group next) p never = absurd never
+item_read x (Close group next) p never = absurd never
+item_read x (Enter body) p never = absurd never
+item_read x (Commit next) p never = absurd never
+item_read x (Look behind body next) p never = absurd never
+item_read x (Deny behind body next) p never = absurd never
+item_read x (Test body other) p never = absurd never
+item_read x (Back k next) p never = absurd never
+item_read x (Recall folded number moved still) p never = absurd never
+item_read x (Keep next) p never = absurd never
+item_read x (Continue next) p never = absurd never
+item_read x (Taken number next) p never = absurd never
+
+-- where the answer ends, if there is one
+answer_ends : (q : Query) (p end : ℕ) (b : Bool) (a : Answer) → (if b then Some (record { position = p; state = moved_to (initial q p) end }) else None) ≡ Some a → a.state.place ≡ end
+answer_ends q p end true a e = sym (ap (λ (x : Answer). x.state.place) (same_Some (record { position = p; state = moved_to (initial q p) end }) a e))
+answer_ends q p end false a e = cc
+
+answer_by : (q : Query) (p : ℕ) (past : Option ℕ) (a : Answer) → ((end : ℕ) → past ≡ Some end → end ≤ p + 1) → answer_to q p past ≡ Some a → a.state.place ≤ p + 1
+answer_by q p None a by e = cc
+answer_by q p (Some end) a by e =
+    let most = by end refl in
+    let same = answer_ends q p end (nat_le end q.request.range_end && accepted q p (moved_to (initial q p) end)) a e in
+    omega (arith, most, same)
+
+pub ends_by_one : (s : Program) → program_is_easy s ≡ true → IsOneItem (instr_at (instrs_of s.code) s.code.start) → EndsByOne s
+ends_by_one s easy one = record {
+  easy = easy;
+  ends = λ haystack request on p a inside within low found.
+      (let q = asked_of s haystack request on in
+      let read = item_read (context_of q) (instr_at (instrs_of s.code) s.code.start) p one in
+      let is : attempt q p ≡ answer_to q p read.past = known _ _ s.compiled
+      (λ compiled. one_item_found q s.code compiled.coded (sym s.meant) inside p read.past read.reads (omega (arith, within))) in
+      answer_by q p read.past a (λ end e. read.ends end e (omega (arith, within, inside)) low) (sym is ∙ found));
+}

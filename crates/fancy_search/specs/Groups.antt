@@ -1,5 +1,5 @@
 -- The groups of a match, as spans of byte offsets. Group 0 is the match itself.
-use Rattle.std.specs.Prelude.{◌≡◌, ◌≤◌, ◌==◌, ◌∷◌, [], ℕ, Bool, true, List, length, map, Option, Some, None, IfSome, if◌then◌else◌, IsTrue, slice_index_or, slice_range}
+use Rattle.std.specs.Prelude.{◌≡◌, ◌≤◌, ◌==◌, ◌∷◌, ℕ, Bool, true, List, length, map, Option, Some, None, IfSome, if◌then◌else◌, IsTrue, slice_index_or, slice_range}
 use Rattle.std.specs.List.{range_with_len}
 use Rattle.fancy_input.specs.Places.{is_boundary}
 use Rattle.fancy_input.specs.declared.span.Span.{Span}

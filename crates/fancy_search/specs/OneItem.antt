@@ -1,9 +1,12 @@
 -- Patterns of one item.
-use Rattle.std.specs.Prelude.{◌≡◌, ◌==◌, ◌&&◌, ℕ, Option, Some, None, nat_le, if◌then◌else◌}
+use Rattle.std.specs.Prelude.{◌≡◌, ◌==◌, ◌&&◌, ◌+◌, ◌<◌, ◌≤◌, ℕ, Bool, true, List, Option, Some, None, length, nat_le, slice_index, if◌then◌else◌}
+use Rattle.fancy_input.specs.declared.input.Request.{Request}
 use Rattle.fancy_tree.specs.Sets.{has}
 use Rattle.fancy_meaning.specs.Context.{Context, moved_to, past_item, past_byte}
 use Rattle.fancy_code.specs.Instructions.{Instruction, Match, Fail, Character, Member, RawByte, Assert, Split, Open, Close, Enter, Commit, Look, Deny, Test, Back, Recall, Keep, Continue, Taken}
-use Rattle.fancy_meaning.specs.Search.{Query, Answer, accepted, initial}
+use Rattle.fancy_meaning.specs.Search.{Query, Answer, accepted, attempt, initial}
+use Rattle.fancy_search.specs.declared.program.Program.{Program}
+use Rattle.fancy_search.specs.Programs.{program_is_easy, asked_of}
 
 -- The instruction reads one item at p, after which there is an outcome: at this place, or nowhere if the item does not stand there.
 abbrev pub ReadsOne : Context → Instruction → ℕ → Option ℕ → Type 0
@@ -34,3 +37,31 @@ answer_to q p (Some end) =
     if nat_le end q.request.range_end && accepted q p (moved_to (initial q p) end)
     then Some (record { position = p; state = moved_to (initial q p) end })
     else None
+
+-- it reads one item, after which there is an outcome
+abbrev pub IsOneItem : Instruction → Type 0
+IsOneItem Match = ⊥
+IsOneItem Fail = ⊥
+IsOneItem (Character c next) = next ≡ 0
+IsOneItem (Member edges next) = next ≡ 0
+IsOneItem (RawByte byte next) = next ≡ 0
+IsOneItem (Assert a next) = ⊥
+IsOneItem (Split a b) = ⊥
+IsOneItem (Open group next) = ⊥
+IsOneItem (Close group next) = ⊥
+IsOneItem (Enter body) = ⊥
+IsOneItem (Commit next) = ⊥
+IsOneItem (Look behind body next) = ⊥
+IsOneItem (Deny behind body next) = ⊥
+IsOneItem (Test body other) = ⊥
+IsOneItem (Back n next) = ⊥
+IsOneItem (Recall folded number moved still) = ⊥
+IsOneItem (Keep next) = ⊥
+IsOneItem (Continue next) = ⊥
+IsOneItem (Taken number next) = ⊥
+
+-- The pattern is easy, and where an ASCII byte stands what an attempt finds ends past that byte or before, whatever is asked.
+pub record EndsByOne (s : Program) : Type 0 where
+  pub easy : program_is_easy s ≡ true
+  pub ends : (haystack : List ℕ) (request : Request) (on : Bool) (p : ℕ) (a : Answer) → request.range_end ≤ length haystack → p < request.range_end → slice_index haystack p < 128
+      → attempt (asked_of s haystack request on) p ≡ Some a → a.state.place ≤ p + 1

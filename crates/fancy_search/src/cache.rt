@@ -159,7 +159,7 @@ impl Drop for AttemptNotes {
 }
 
 impl AttemptNotes {
-    ghost use Rattle.fancy_search.specs.KeptTables.{KeepsNotes};
+    ghost use Rattle.fancy_search.specs.KeptTables.{KeepsNotes, is_steps};
 
     /// Nothing was found out yet, and no memory is taken.
     pub fn new(alloc: Global) -> AttemptNotes
@@ -169,6 +169,21 @@ impl AttemptNotes {
             kept: Kept::Nothing,
             notes: Notes::new(alloc),
             steps: None,
+        }
+    }
+
+    /// The steps that the automaton remembers, where they are kept for the next attempt.
+    pub(crate) fn kept_steps(&self) -> Option<&RememberedSteps>
+        ensures kept { IfSome result (λ _. is_steps self.now.kept ≡ true) }
+        ensures held { IfSome result (λ steps.
+            IfSome self.now.steps (λ held. steps.now ≡ held.value)) }
+    {
+        if !matches!(self.kept, Kept::Steps) {
+            return None;
+        }
+        match &self.steps {
+            Some(steps) => Some(steps),
+            None => None,
         }
     }
 

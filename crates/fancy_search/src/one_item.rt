@@ -1,10 +1,10 @@
 //! Code of one item.
 
-ghost use Rattle.std.specs.Prelude.{◌≡◌, IfSome};
+ghost use Rattle.std.specs.Prelude.{◌≡◌, IfSome, true};
 ghost use Rattle.fancy_code.specs.Code.{instrs_of};
 ghost use Rattle.fancy_meaning.specs.Context.{Context};
 ghost use Rattle.fancy_code.specs.Run.{instr_at};
-ghost use Rattle.fancy_search.specs.OneItem.{ReadsOne};
+ghost use Rattle.fancy_search.specs.OneItem.{IsOneItem, ReadsOne};
 
 use fancy_code::code::{Code, Instr, MATCH};
 use fancy_code::step::{past_character, past_member, past_raw_byte};
@@ -29,5 +29,20 @@ pub(crate) fn past_one_item(code: &Code, haystack: &[u8], place: usize) -> Optio
         }
         Instr::RawByte(byte, next) if *next == MATCH => Some(past_raw_byte(haystack, *byte, place)),
         _ => None,
+    }
+}
+
+/// Whether code reads one item, after which a match is found.
+pub(crate) fn is_one_item(code: &Code) -> bool
+    ensures { result ≡ true → IsOneItem (instr_at (instrs_of code.now) code.now.start) }
+{
+    if code.start >= code.len() {
+        return false;
+    }
+    match code.instr(code.start) {
+        Instr::Character(_, next) => *next == MATCH,
+        Instr::Member(_, next) => *next == MATCH,
+        Instr::RawByte(_, next) => *next == MATCH,
+        _ => false,
     }
 }

@@ -35,7 +35,7 @@ ghost use Rattle.fancy_search.specs.Cached.{IsAnswerIn, IsAttemptIn};
 use crate::asked::Asked;
 use crate::cache::{AttemptCache, AttemptNotes, Cache, Engine, Kept, RememberedSteps};
 use crate::following::{Lengths, is_worth_following, shortest_followed};
-use crate::one_item::past_one_item;
+use crate::one_item::{is_one_item, past_one_item};
 use crate::options::Options;
 use fancy_automaton::search as automaton;
 use fancy_bytes::lacking::{KnownBytes, RequiredBytes};
@@ -180,7 +180,7 @@ impl Program {
     ghost use Rattle.fancy_search.specs.SearchCounts.{RefusesEasy, IsOutOfSteps, AllowsAllSteps, tried_by, is_hopeless, IfFound, IsHardProgram, RefusesQuery, RefusesAttempt, AllowsAttempt, HasRoomFor, step_bound};
     ghost use Rattle.fancy_search.specs.Programs.{program_pattern, program_options, program_groups, program_names, program_length, program_is_easy, asked_of, query_in};
     ghost use Rattle.fancy_search.specs.Served.{IsPosition, StandsIn, KeepsCounts, CountsReturns, HeedsStackLimit, Serves, ServesEasily};
-    ghost use Rattle.fancy_search.specs.OneItem.{answer_to};
+    ghost use Rattle.fancy_search.specs.OneItem.{EndsByOne, answer_to};
     ghost use Rattle.fancy_search.specs.Starts.{may_start, NeverHolds};
     ghost use Rattle.fancy_search.specs.KeptTables.{KeepsTable, KeepsSteps, KeepsLines, IsKeptIn, IsKeptFor, KeepsNotes, LeavesNotes, table_kept, ahead_with, most_with, notes_to_go, TakesStepsToGo, SpendsSteps, KeepsOn, notes_ahead, is_steps, keeps_no_table};
     ghost use Rattle.fancy_search.specs.Options.{search_options};
@@ -289,6 +289,17 @@ impl Program {
         ensures { result ≡ false → NeverHolds self.now place byte }
     {
         !self.easy || self.code.prefilter.opening.may_hold(place, byte)
+    }
+
+    /// Whether the pattern is one item, as far as its code tells, so that no match goes past an ASCII character that it starts with. For
+    /// a hard pattern the answer is `false`.
+    pub fn is_one_item(&self) -> bool
+        ensures { result ≡ true → EndsByOne self.now }
+    {
+        if !self.easy {
+            return false;
+        }
+        is_one_item(&self.code)
     }
 
     /// The first match that is asked for in the bytes of a haystack. Its groups stand in `cache` then.
@@ -789,6 +800,69 @@ impl Program {
         let past = past_one_item(&self.code, asked.haystack, position)?;
         cache.served = Engine::WithoutGroups(self.code.groups);
         Some(self.match_to(asked, position, past))
+    }
+
+    /// Whether the automaton follows the code in what is asked, and no limit of steps is to be heeded.
+    fn follows_freely(&self, asked: &Asked<'_>) -> bool
+        ensures easy { result ≡ true → program_is_easy self.now ≡ true }
+        ensures plain { result ≡ true → ArePlain (instrs_of self.now.code) }
+        ensures places { result ≡ true → KeepsPlaces asked.now.haystack.now self.now.code.meaning
+            (search_options self.now.options).on_boundaries }
+    {
+        if !self.easy || self.options.step_limit.is_some() {
+            return false;
+        }
+        self.can_follow(asked.text)
+    }
+
+    /// The search of an anchored request for an easy pattern, as far as steps tell it that the automaton remembers.
+    fn recall(
+        &self,
+        haystack: &[u8],
+        request: Request,
+        steps: &RememberedSteps,
+    ) -> Option<Option<Found>>
+        requires inside { request.range_end ≤ length haystack.now }
+        requires anchored { request.anchored ≡ true }
+        requires easy { program_is_easy self.now ≡ true }
+        requires plain { ArePlain (instrs_of self.now.code) }
+        requires places { KeepsPlaces haystack.now self.now.code.meaning
+            (search_options self.now.options).on_boundaries }
+        requires kept { KeepsSteps self.now steps.now.cells }
+        ensures { IfSome result (λ m. (on : Bool)
+            → answer_with (replicate (program_groups self.now) None) m
+            ≡ search (asked_of self.now haystack.now request on)) }
+    {
+        let options = self.options.for_search();
+        let cells = &steps.cells;
+        let found = automaton::find_told(&self.code, haystack, request, options, cells)?;
+        Some(found)
+    }
+
+    /// The match that an attempt at one position finds, as [`Program::attempt_in_list`], where steps tell it that the automaton
+    /// remembers in the notes. `None` elsewhere. Nothing is counted, and no limit is met.
+    pub fn find_told(
+        &self,
+        asked: &Asked<'_>,
+        position: usize,
+        notes: &AttemptNotes,
+        cache: &mut Cache,
+    ) -> Option<Option<Found>>
+        requires tries { IsPosition asked.now.request position }
+        requires notes { KeepsNotes self.now
+            asked.now.haystack.now asked.now.request position notes.now }
+        ensures easy { IfSome result (λ _. program_is_easy self.now ≡ true) }
+        ensures answer { IfSome result
+            (λ m. IsAttemptIn m cache.new (query_in self.now asked.now) position) }
+    {
+        if !self.follows_freely(asked) {
+            return None;
+        }
+        let steps = notes.kept_steps()?;
+        let from_position = anchored_at(asked.request, position);
+        let found = self.recall(asked.haystack, from_position, steps)?;
+        cache.served = Engine::WithoutGroups(self.code.groups);
+        Some(found)
     }
 
     /// The match of an easy pattern from a position up to a place, if there is one, and such a match is accepted.

@@ -425,7 +425,7 @@ fn note(
 
 /// Whether the rows before the first place are where they are looked for.
 #[inline(always)]
-fn has_origin(code: &Code, cells: &Cells) -> bool
+pub fn has_origin(code: &Code, cells: &Cells) -> bool
     ensures { result ≡ true
         → HasRows cells.now.rows.lists.items cells.now.nothing cells.now.alone [] code.now.start }
 {

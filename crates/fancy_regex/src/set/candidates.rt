@@ -9,7 +9,7 @@
 //! The tables take no memory beside their own, whatever the set's size: they have one bit for each of 128 groups of neighbours. Up to
 //! 128 members each have a group of their own.
 
-ghost use Rattle.std.specs.Prelude.{◌≡◌, ◌≤◌, ◌<◌, ◌+◌, ◌*◌, ◌/◌, ◌==◌, ◌&&◌, ◌||◌, ◌↔◌, ℕ, List, IfSome, IsTrue, MatchOption, false, length, slice_get, slice_index, take};
+ghost use Rattle.std.specs.Prelude.{◌≡◌, ◌≤◌, ◌<◌, ◌+◌, ◌*◌, ◌/◌, ◌==◌, ◌&&◌, ◌||◌, ◌↔◌, ℕ, List, IfSome, IsTrue, MatchOption, false, true, length, slice_get, slice_index, take};
 ghost use Rattle.fancy_core.specs.declared.regex.Regex.{Regex};
 
 use fancy_core::regex::Regex;
@@ -96,10 +96,11 @@ impl Groups {
 
     /// These groups without those that have no place in the table for this byte. With `None` all stay.
     fn narrowed(self, by_byte: &[Groups; 256], next: Option<u8>) -> Groups
-        ensures { (width : ℕ) (members : List Regex) (searched : List ℕ) (p place : ℕ)
+        ensures held { (width : ℕ) (members : List Regex) (searched : List ℕ) (p place : ℕ)
             → next ≡ slice_get searched (p + place) → AreHolders width members place by_byte.now
             → HoldAllAt width members searched p self
             → HoldAllAt width members searched p result }
+        ensures only { (g : ℕ) → has_group result g ≡ true → has_group self g ≡ true }
     {
         match next {
             None => self,
@@ -114,7 +115,7 @@ impl Groups {
     }
 
     /// The first group from a number on.
-    fn first_from(self, from: usize) -> Option<usize>
+    pub(crate) fn first_from(self, from: usize) -> Option<usize>
         ensures { MatchOption result (NoGroupFrom self from) (IsNextGroup self from) }
     {
         if from >= 128 {
@@ -144,12 +145,13 @@ pub(crate) struct Candidates {
 }
 
 impl Candidates {
-    ghost use Rattle.fancy_regex.specs.Candidates.{groups_before, AreCandidatesOf, HoldAllAt, HoldNoOthers, NoMemberBetween, IsNextMember};
+    ghost use Rattle.fancy_regex.specs.Candidates.{groups_before, AreCandidatesOf, AreOfStarters, HoldAllAt, HoldNoOthers, NoMemberBetween, IsNextMember, TellStarters};
 
     /// Of these members, at most 128 of which have a group of their own.
     pub(crate) fn new(members: &[Regex]) -> Candidates
         ensures all { AreCandidatesOf members.now result }
         ensures only { HoldNoOthers members.now result }
+        ensures told { TellStarters members.now result }
         ensures alone { length members.now ≤ 128 → result.width ≡ 1 }
     {
         let width = members.len().saturating_sub(1) / 128 + 1;
@@ -179,6 +181,29 @@ impl Candidates {
         }
     }
 
+    /// The groups of the members that may begin right before these four bytes, as far as there are so many.
+    #[inline(always)]
+    fn ahead_of(
+        &self,
+        first: Option<u8>,
+        second: Option<u8>,
+        third: Option<u8>,
+        fourth: Option<u8>,
+    ) -> Groups
+        ensures held { (members : List Regex) (searched : List ℕ) (p : ℕ)
+            → first ≡ slice_get searched p → second ≡ slice_get searched (p + 1)
+            → third ≡ slice_get searched (p + 2) → fourth ≡ slice_get searched (p + 3)
+            → AreCandidatesOf members self.now
+            → HoldAllAt self.now.width members searched p result }
+        ensures only { (members : List Regex) → TellStarters members self.now
+            → self.now.width ≡ 1 → AreOfStarters members first result }
+    {
+        self.before(first)
+            .narrowed(&self.second, second)
+            .narrowed(&self.third, third)
+            .narrowed(&self.fourth, fourth)
+    }
+
     /// The groups of the members that may begin at a position, by the bytes from there to the end of the searched range.
     pub(crate) fn at(&self, haystack: &[u8], range_end: usize, position: usize) -> Groups
         requires inside { range_end ≤ length haystack.now }
@@ -186,23 +211,32 @@ impl Candidates {
         ensures bytes { (k : ℕ) → slice_index haystack.now k < 256 }
         ensures held { (members : List Regex) → AreCandidatesOf members self.now
             → HoldAllAt self.now.width members (take range_end haystack.now) position result }
+        ensures only { (members : List Regex) → TellStarters members self.now
+            → self.now.width ≡ 1
+            → AreOfStarters members (slice_get (take range_end haystack.now) position) result }
     {
         let searched = &haystack[..range_end];
-        self.before(byte_at(searched, position))
-            .narrowed(&self.second, byte_at(searched, position + 1))
-            .narrowed(&self.third, byte_at(searched, position + 2))
-            .narrowed(&self.fourth, byte_at(searched, position + 3))
+        if position + 3 < searched.len() {
+            return self.ahead_of(
+                Some(searched[position]),
+                Some(searched[position + 1]),
+                Some(searched[position + 2]),
+                Some(searched[position + 3]),
+            );
+        }
+        self.ahead_of(
+            byte_at(searched, position),
+            byte_at(searched, position + 1),
+            byte_at(searched, position + 2),
+            byte_at(searched, position + 3),
+        )
     }
 
-    /// The number of the group of the member with this index. Where each has a group of its own, no division is needed.
-    fn group_of(&self, index: usize) -> usize
-        ensures { result ≡ index / self.now.width }
+    /// Whether each member has a group of its own.
+    pub(crate) fn are_apart(&self) -> bool
+        ensures { result ≡ true → self.now.width ≡ 1 }
     {
-        if self.width == 1 {
-            index
-        } else {
-            index / self.width
-        }
+        self.width == 1
     }
 
     /// The first member in one of the groups with an index from the one on and below `count`.
@@ -210,10 +244,7 @@ impl Candidates {
         ensures { MatchOption result (NoMemberBetween self.now.width groups from count)
             (IsNextMember self.now.width groups from count) }
     {
-        if groups.is_empty() {
-            return None;
-        }
-        let Some(group) = groups.first_from(self.group_of(from)) else {
+        let Some(group) = groups.first_from(from / self.width) else {
             return None;
         };
         let index = from.max(group * self.width);

@@ -5,7 +5,7 @@ ghost use Rattle.fancy_bytes.specs.Lacks.{AreKnown};
 ghost use Rattle.fancy_core.specs.declared.regex.Regex.{Regex};
 ghost use Rattle.fancy_input.specs.Inputs.{haystack_in, request_in};
 ghost use Rattle.fancy_input.specs.Requests.{effective_start};
-ghost use Rattle.fancy_regex.specs.Candidates.{HoldAllAt, IsNextStarter, NoStarterBetween};
+ghost use Rattle.fancy_regex.specs.Candidates.{AreOfStarters, HoldAllAt, IsNextStarter, NoStarterBetween};
 ghost use Rattle.fancy_regex.specs.SetMembers.{has_answer_at, set_position, NoneBetween, MayStartAt};
 ghost use Rattle.fancy_regex.specs.SetAnswers.{IsAnswerOf, IsFirstAnswer, IsFirstOfSet};
 ghost use Rattle.fancy_regex.specs.Sets.{members_of, asked_of_set, CanSearchAll};
@@ -130,6 +130,9 @@ impl RegexSet {
         requires groups { HoldAllAt self.now.candidates.width (members_of self.now)
             (take (request_in input.now).range_end (S.bytes (haystack_in input.now))) position
             groups }
+        requires only { self.now.candidates.width ≡ 1 → AreOfStarters (members_of self.now)
+            (slice_get (take (request_in input.now).range_end (S.bytes (haystack_in input.now)))
+            position) groups }
         requires small { (k : ℕ) → slice_index (S.bytes (haystack_in input.now)) k < 256 }
         requires searched { CanSearchAll S.text S.bytes self.now input.now }
         requires starts { effective_start (request_in input.now) ≤ position }
@@ -176,8 +179,31 @@ impl RegexSet {
     }
 
     /// The first member from an index on that is to be asked at a position of what is searched: it is in one of the groups that may
-    /// begin there, and may start with the byte there.
+    /// begin there, and may start with the byte there. Where each member has a group of its own, the groups tell both.
     pub(crate) fn next_starter(
+        &self,
+        groups: Groups,
+        searched: &[u8],
+        position: usize,
+        from: usize,
+    ) -> Option<usize>
+        requires all { HoldAllAt self.now.candidates.width (members_of self.now) searched.now
+            position groups }
+        requires only { self.now.candidates.width ≡ 1
+            → AreOfStarters (members_of self.now) (slice_get searched.now position) groups }
+        ensures { MatchOption result
+            (NoStarterBetween (members_of self.now) searched.now position from
+            (length (members_of self.now)))
+            (IsNextStarter (members_of self.now) searched.now position from) }
+    {
+        if self.candidates.are_apart() {
+            return groups.first_from(from);
+        }
+        self.next_in_groups(groups, searched, position, from)
+    }
+
+    /// The same, of groups that several members share.
+    fn next_in_groups(
         &self,
         groups: Groups,
         searched: &[u8],

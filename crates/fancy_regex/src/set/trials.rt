@@ -4,7 +4,7 @@
 //! that member, so an easy member takes no more steps at all positions together than one search of it does. The memory for that
 //! is taken as members are first tried; all other memory serves all members.
 
-ghost use Rattle.std.specs.Prelude.{◌≡◌, ◌≤◌, ◌<◌, ◌+◌, ℕ, true, List, [], Some, IfOk, IfErr, IfSome, IfNone, length, vec_len};
+ghost use Rattle.std.specs.Prelude.{◌≡◌, ◌≤◌, ◌<◌, ◌+◌, ℕ, true, List, [], Some, IfOk, IfErr, IfSome, IfNone, length, slice_get, vec_len};
 ghost use Rattle.fancy_bytes.specs.Lacks.{AreKnown};
 ghost use Rattle.fancy_core.specs.Captures.{spans_if, searched_in, found_by};
 ghost use Rattle.fancy_core.specs.Limited.{RefusesAt, AllowsAt};
@@ -13,18 +13,19 @@ ghost use Rattle.fancy_core.specs.Searches.{CanSearchInput, asked_by, groups_of_
 ghost use Rattle.fancy_input.specs.Inputs.{haystack_in, request_in};
 ghost use Rattle.fancy_input.specs.Requests.{effective_start};
 ghost use Rattle.fancy_search.specs.Cached.{IsAttemptIn};
-ghost use Rattle.fancy_search.specs.KeptTables.{kept_from};
+ghost use Rattle.fancy_search.specs.KeptTables.{KeepsNotes, kept_from};
+ghost use Rattle.fancy_regex.specs.Trials.{notes_held};
 ghost use Rattle.fancy_search.specs.Programs.{query_in};
 ghost use Rattle.fancy_search.specs.SearchCounts.{IsOutOfSteps};
 
 use fancy_code::found::Found;
-use fancy_core::attempt::{attempt_at, find_in_list, find_one_item};
+use fancy_core::attempt::{attempt_at, find_in_list, find_one_item, find_told};
 use fancy_core::captures::Captures;
 use fancy_core::regex::Regex;
 use fancy_input::input::Input;
 use fancy_input::regex_input::RegexInput;
 use fancy_search::asked::Asked;
-use fancy_search::cache::{AttemptCache, AttemptNotes};
+use fancy_search::cache::{AttemptCache, AttemptNotes, Cache};
 use fancy_tree::error::{Error, Result};
 use std::alloc::Global;
 
@@ -165,9 +166,41 @@ impl Trials {
         if let Some(found) = one {
             return Ok(found);
         }
+        let engines = &mut self.cache.engines;
+        let told = told(&self.notes, index, member, asked, position, engines);
+        if let Some(found) = told {
+            return Ok(found);
+        }
         let mut notes = self.take_notes(index)?;
         let found = find_in_list(member, asked, position, &mut notes, &mut self.cache);
         self.notes[index] = Some(notes);
         found
+    }
+}
+
+/// The match that the attempt of the member with this index finds at a position, where what its attempts before found out tells it.
+fn told(
+    notes: &[Option<Box<AttemptNotes>>],
+    index: usize,
+    member: &Regex,
+    asked: &Asked<'_>,
+    position: usize,
+    cache: &mut Cache,
+) -> Option<Option<Found>>
+    requires starts { effective_start asked.now.request ≤ position }
+    requires ends { position ≤ asked.now.request.range_end }
+    requires notes { (held : AttemptNotes) → notes_held (slice_get notes.now index) ≡ Some held
+        → KeepsNotes (program_in member.now)
+        asked.now.haystack.now asked.now.request position held }
+    ensures easy { IfSome result (λ _. easy_in member.now ≡ true) }
+    ensures found { IfSome result (λ m.
+        IsAttemptIn m cache.new (query_in (program_in member.now) asked.now) position) }
+{
+    if index >= notes.len() {
+        return None;
+    }
+    match &notes[index] {
+        Some(held) => find_told(member, asked, position, held, cache),
+        None => None,
     }
 }

@@ -1,7 +1,8 @@
 //! The longest match of the patterns of a set at one place.
 
-ghost use Rattle.std.specs.Prelude.{◌≡◌, ◌≤◌, ◌<◌, ◌⊎◌, ℕ, IfOk, IfErr, IfSome, IfNone, Some, length};
+ghost use Rattle.std.specs.Prelude.{◌≡◌, ◌≤◌, ◌<◌, ◌⊎◌, ℕ, IfOk, IfErr, IfSome, IfNone, Some, length, slice_index, true};
 ghost use Rattle.fancy_bytes.specs.Lacks.{AreKnown};
+ghost use Rattle.fancy_core.specs.RegexStarts.{EndsByOneItem};
 ghost use Rattle.fancy_input.specs.Inputs.{haystack_in, request_in};
 ghost use Rattle.fancy_input.specs.Work.{work_of};
 ghost use Rattle.fancy_search.specs.SearchCounts.{IsOutOfSteps};
@@ -17,7 +18,10 @@ use crate::set::{RegexSet, RegexSetMatch};
 use crate::tokens::token::Token;
 use fancy_code::found::Found;
 use fancy_core::attempt::captures_found;
+use fancy_core::regex::Regex;
+use fancy_core::starts::is_one_item;
 use fancy_input::input::{Input, Request};
+use fancy_input::lines::byte_at;
 use fancy_input::regex_input::RegexInput;
 use fancy_search::asked::Asked;
 use fancy_tree::error::{Error, Result, RuntimeError};
@@ -75,6 +79,10 @@ impl RegexSet {
         let mut from = 0;
         'members: while let Some(index) = self.next_starter(groups, searched, place, from) {
             let member = &self.members[index];
+            if ends_no_later(member, searched, place, end) {
+                from = index + 1;
+                continue 'members;
+            }
             let found = trials.find(index, member, &asked, place)?;
             if let Some(found) = found_past(found, place, end) {
                 let captures = captures_found(member, haystack, found, &trials.cache.engines)?;
@@ -89,6 +97,19 @@ impl RegexSet {
             Some(token) => Ok(token),
             None => Err(Error::RuntimeError(RuntimeError::Unmatched(place))),
         }
+    }
+}
+
+/// Whether a match was found that starts at a place and goes on to the end, and no match of a member that starts there ends later: where
+/// an ASCII character stands, one item reads no more than that.
+fn ends_no_later(member: &Regex, searched: &[u8], place: usize, end: usize) -> bool
+    ensures past { result ≡ true → place < end }
+    ensures one { result ≡ true → EndsByOneItem member.now }
+    ensures low { result ≡ true → slice_index searched.now place < 128 }
+{
+    match byte_at(searched, place) {
+        None => false,
+        Some(byte) => place < end && byte < 128 && is_one_item(member),
     }
 }
 

@@ -10,8 +10,7 @@ use Rattle.fancy_meaning.specs.declared.reading.SuppressedEnds.{SuppressedEnds}
 use Rattle.fancy_code.specs.declared.attempt.Attempt.{Attempt}
 use Rattle.fancy_code.proofs.PositionLemmas.{positions_none}
 use Rattle.fancy_meaning.proofs.AttemptLemmas.{search_over}
-use Rattle.fancy_states.specs.Search.{ends_in, ends_of}
-use Rattle.fancy_automaton.proofs.AnswerLemmas.{IsWhole, Deep, begun, found_by_ends, whole_is, leftmost_is, starts_none}
+use Rattle.fancy_automaton.proofs.AnswerLemmas.{Deep, answered, begun, starts_none}
 use Rattle.fancy_automaton.proofs.SteadyLemmas.{steady}
 use Rattle.fancy_automaton.proofs.search.find.Goals as goal
 
@@ -49,17 +48,13 @@ returns-clause-answer c p on is =
     ap (λ (k : ℕ). if anchored then (min 1 (c.args.request.range_end + 1 - k)) else (c.args.request.range_end + 1 - k)) (sym c.effective_start-first.ensures)
     ∙ tried_in anchored left (omega arith) in
     let all : answer_from q n first ≡ search q = ap₂ (answer_from q) (sym tried) c.effective_start-first.ensures in
-    let ends : option_map ends_in c.in_ok-found.found ≡ option_map ends_of (search q) =
-    c.in_ok-found.ensures.answer (Deep q c.args.code.now is refl refl refl refl c.requires.inside x (Some first) same plain) (record {
-      known = begun q c.args.code.now is refl refl refl refl c.requires.inside x (Some first) same plain;
-      starts = starts_none q c.args.code.now is refl refl refl refl c.requires.inside x (Some first) same plain (λ k. omega (arith, c.type_inv.haystack k));
-    })
-    ∙ leftmost_is q c.args.code.now is refl refl refl refl c.requires.inside x (Some first) same plain n first within
-    ∙ ap (option_map ends_of) all in
     let groups : List (Option Span) = replicate c.args.code.now.groups None in
     ap (answer_with groups) c.found_by.ensures
-    ∙ found_by_ends groups c.in_ok-found.found (search q)
-    (subst (IsWhole groups) all (whole_is q c.args.code.now is refl refl refl refl c.requires.inside x (Some first) same plain n first within)) ends
+    ∙ answered q c.args.code.now is refl refl refl refl c.requires.inside x (Some first) same plain n first within all c.in_ok-found.found
+    (c.in_ok-found.ensures.answer (Deep q c.args.code.now is refl refl refl refl c.requires.inside x (Some first) same plain) (record {
+      known = begun q c.args.code.now is refl refl refl refl c.requires.inside x (Some first) same plain;
+      starts = starts_none q c.args.code.now is refl refl refl refl c.requires.inside x (Some first) same plain (λ k. omega (arith, c.type_inv.haystack k));
+    }))
 
 pub returns-clause-idle : goal.returns-clause-idle
 returns-clause-idle c none =

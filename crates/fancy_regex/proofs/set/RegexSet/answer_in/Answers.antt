@@ -71,5 +71,8 @@ returns-in-Some-answer_of-clause-limited g c = c.in-Some-answer_of.ensures.limit
 pub returns-in-Some-answer_of-clause-grows : goal.returns-in-Some-answer_of-clause-grows
 returns-in-Some-answer_of-clause-grows g c = let more = c.answer_of.ensures.grows in omega (arith, more, c.members.invariant.grows)
 
-pub next_starter-requires : goal.next_starter-requires
-next_starter-requires g c = rw (c.request-range_end.ensures.value, c.as_bytes-bytes.ensures.bytes, c.haystack-haystack.ensures) c.requires.groups
+pub next_starter-requires-clause-all : goal.next_starter-requires-clause-all
+next_starter-requires-clause-all g c = rw (c.request-range_end.ensures.value, c.as_bytes-bytes.ensures.bytes, c.haystack-haystack.ensures) c.requires.groups
+
+pub next_starter-requires-clause-only : goal.next_starter-requires-clause-only
+next_starter-requires-clause-only g c = rw (c.request-range_end.ensures.value, c.as_bytes-bytes.ensures.bytes, c.haystack-haystack.ensures) c.requires.only

@@ -20,7 +20,7 @@ use Rattle.fancy_regex.proofs.SetCandidateLemmas.{starts_there}
 use Rattle.fancy_regex.proofs.SetLemmas.{item_is_matched}
 use Rattle.fancy_regex.proofs.SetLimitLemmas.{heeds_of_member, passed_on}
 use Rattle.fancy_regex.proofs.TrialLemmas.{reaches, reaches_it, noted_past, tried_below, tried_all}
-use Rattle.fancy_regex.proofs.TokenSearchLemmas.{goes_forth, passed_short, passed_over, taken_longer, all_gone, none_gone, limits_over, limits_more}
+use Rattle.fancy_regex.proofs.TokenSearchLemmas.{goes_forth, passed_short, passed_one, passed_over, taken_longer, all_gone, none_gone, limits_of_one, limits_over, limits_more}
 use Rattle.fancy_regex.proofs.TokenGivenLemmas.{found_as_attempted, found_by_end, item_of_found, limit_kept, out_of_memory_at, token_of_found}
 use Rattle.fancy_regex.proofs.set.RegexSet.token_at.Goals as goal
 use Rattle.fancy_regex.proofs.set.RegexSet.token_at.Goals.{in-Some-found_past+in_ok-captures, in_default-found_past}
@@ -229,5 +229,34 @@ returns-in_err-found-clause-known g c = rw (c.as_bytes-bytes.ensures.bytes, c.ha
 pub returns-in_err-captures-clause-known : goal.returns-in_err-captures-clause-known
 returns-in_err-captures-clause-known g c = rw (c.as_bytes-bytes.ensures.bytes, c.haystack-haystack.ensures) at c.find.ensures.known
 
-pub next_starter-requires : goal.next_starter-requires
-next_starter-requires g c = c.at-groups.ensures.held c.args.self.now.members.items c.args.self.now.listed
+pub next_starter-requires-clause-all : goal.next_starter-requires-clause-all
+next_starter-requires-clause-all g c = c.at-groups.ensures.held c.args.self.now.members.items c.args.self.now.listed
+
+pub next_starter-requires-clause-only : goal.next_starter-requires-clause-only
+next_starter-requires-clause-only g c = c.at-groups.ensures.only c.args.self.now.members.items c.args.self.now.told
+
+pub members-preserved-then-ends_no_later : goal.members-preserved-then-ends_no_later
+members-preserved-then-ends_no_later g c =
+    let s = c.args.self.now in
+    let p = c.args.place in
+    let haystack = haystack_in c.args.input.now in
+    let q = asked_of_set s g.S.Haystack.bytes c.args.input.now in
+    let index = c.in-Some.index in
+    let member = c.index-member.result.now in
+    let starter = c.in-Some.ensures in
+    let inside = starter.inside in
+    let is = slice_get_read s.members.items _ index member refl inside c.index-member.ensures in
+    let searched = take c.request-request.result.range_end c.as_bytes-bytes.result.now in
+    let there : searched ≡ take q.request.range_end q.haystack = rw (c.request-request.ensures.value, c.as_bytes-bytes.ensures.bytes, c.haystack-haystack.ensures) refl in
+    let over = passed_over q haystack p searched there (rw (c.as_bytes-bytes.ensures.bytes, c.haystack-haystack.ensures) at c.at-groups.ensures.bytes) c.args.input.now.inside (omega (arith, c.requires.ends)) c.members.from index c.members.end c.members.longest starter.reached starter.none c.members.invariant.longest in
+    let forth = goes_forth q haystack p index c.members.end c.members.longest over in
+    let one = c.if-ends_no_later.ensures.one refl in
+    record {
+      limit = c.members.invariant.limit;
+      known = c.members.invariant.known;
+      below = λ k r lt at. tried_all q p c.members.from c.members.end c.members.trials forth c.members.invariant.below c.members.invariant.above k r (omega arith) at;
+      above = λ k r le at. (let reached = starter.reached in c.members.invariant.above k r (omega (arith, le, reached)) at);
+      inside = omega (arith, inside);
+      longest = passed_one q haystack p searched there index c.members.end c.members.longest member is one c.args.input.now.inside c.requires.ends (c.if-ends_no_later.ensures.low refl) (c.if-ends_no_later.ensures.past refl) over;
+      limits = limits_of_one q p index member is one (limits_over q p searched there c.members.from index starter.none c.members.invariant.limits);
+    }

@@ -1,4 +1,4 @@
-use Rattle.std.proofs.Common.{◌≡◌, ◌∙◌, Bool, sym, true≢false, arith}
+use Rattle.std.proofs.Common.{arith}
 use Rattle.fancy_states.proofs.RememberedLemmas.{remembers, recalls}
 use Rattle.fancy_input.proofs.WorkLemmas.{runs_all}
 use Rattle.fancy_search.specs.Programs.{program_step_limit}

@@ -7,7 +7,7 @@ use Rattle.fancy_meaning.specs.Search.{attempt}
 use Rattle.fancy_search.specs.KeptTables.{KeepsNotes, kept_from}
 use Rattle.fancy_search.specs.Programs.{query_in}
 use Rattle.fancy_search.specs.SearchCounts.{RefusesEasy}
-use Rattle.fancy_search.proofs.KeptTablesLemmas.{noted_steps, steps_taken, noted_still}
+use Rattle.fancy_search.proofs.KeptTablesLemmas.{noted_steps, steps_taken}
 use Rattle.fancy_search.proofs.ResultLemmas.{if_ok, if_err}
 use Rattle.fancy_search.proofs.SearchedLemmas.{attempted}
 use Rattle.fancy_search.proofs.program.Program.follow_at.Goals as goal

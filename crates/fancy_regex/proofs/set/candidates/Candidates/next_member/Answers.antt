@@ -7,12 +7,12 @@ pub returns-in_default : goal.returns-in_default
 returns-in_default c =
     let width = c.args.self.now.width in
     no_member c.args.groups width c.args.from c.args.self.now.some c.args.count
-    (if_none (NoGroupFrom c.args.groups (c.args.from / width)) (IsNextGroup c.args.groups (c.args.from / width)) c.first_from.result c.in_default.not-Some (rw c.group_of.ensures at c.first_from.ensures))
+    (if_none (NoGroupFrom c.args.groups (c.args.from / width)) (IsNextGroup c.args.groups (c.args.from / width)) c.first_from.result c.in_default.not-Some c.first_from.ensures)
 
 pub returns-then-index-count : goal.returns-then-index-count
 returns-then-index-count c =
-    next_member c.args.groups c.args.self.now.width c.args.from c.args.self.now.some c.in-Some.group c.max-index.result c.max-index.ensures (rw c.group_of.ensures at c.in-Some.ensures) c.args.count c.if-index-count.true
+    next_member c.args.groups c.args.self.now.width c.args.from c.args.self.now.some c.in-Some.group c.max-index.result c.max-index.ensures c.in-Some.ensures c.args.count c.if-index-count.true
 
 pub returns-else-index-count : goal.returns-else-index-count
 returns-else-index-count c =
-    none_before_count c.args.groups c.args.self.now.width c.args.from c.args.self.now.some c.in-Some.group c.max-index.result c.max-index.ensures (rw c.group_of.ensures at c.in-Some.ensures) c.args.count c.if-index-count.false
+    none_before_count c.args.groups c.args.self.now.width c.args.from c.args.self.now.some c.in-Some.group c.max-index.result c.max-index.ensures c.in-Some.ensures c.args.count c.if-index-count.false

@@ -1,4 +1,4 @@
-use Rattle.std.proofs.Common.{◌≡◌, ◌≤◌, ◌∙◌, Some, refl, sym, ap, subst, arith, true≢false}
+use Rattle.std.proofs.Common.{◌≤◌, ◌∙◌, Some, sym, ap, subst, arith, true≢false}
 use Rattle.std.specs.Box.{with_value}
 use Rattle.fancy_input.specs.Work.{IsWithin, work_of}
 use Rattle.fancy_core.specs.Regexes.{program_in, step_limit_in}
@@ -46,3 +46,12 @@ returns-clause-grows c = subst (λ (k : AttemptCache). work_of k.work ≤ work_o
 
 pub returns-in_err-notes-clause-grows : goal.returns-in_err-notes-clause-grows
 returns-in_err-notes-clause-grows c = omega (arith, ap (λ k. work_of k.work) c.take_notes.ensures.cache)
+
+pub returns-in-Some-told-clause-notes : goal.returns-in-Some-told-clause-notes
+returns-in-Some-told-clause-notes c notes at =
+    noted_past (program_in c.args.member.now) c.args.asked.now c.args.position notes c.in-Some-told.found
+    (attempt_stands (program_in c.args.member.now) c.args.asked.now (cached_groups c.told-told.new.cache) c.args.position c.requires.ends c.in-Some-told.found c.in-Some-told.ensures.found)
+    (c.requires.notes notes at)
+
+pub returns-in-Some-told-clause-allowed : goal.returns-in-Some-told-clause-allowed
+returns-in-Some-told-clause-allowed c hard = absurd (true≢false (sym c.in-Some-told.ensures.easy ∙ hard))

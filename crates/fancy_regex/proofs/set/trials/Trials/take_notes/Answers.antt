@@ -1,5 +1,5 @@
 use Rattle.std.proofs.Common.{◌∙◌}
-use Rattle.fancy_regex.proofs.TrialLemmas.{none_pushed, stay_but}
+use Rattle.fancy_regex.proofs.TrialLemmas.{none_pushed}
 use Rattle.fancy_regex.proofs.set.trials.Trials.take_notes.Goals as goal
 
 pub members-preserved : goal.members-preserved

@@ -1,6 +1,6 @@
 use Rattle.std.proofs.Common.{◌≤◌, ◌-◌}
 use Rattle.fancy_regex.specs.Candidates.{NoStarterBetween}
-use Rattle.fancy_regex.proofs.set.RegexSet.next_starter.Given as goal
+use Rattle.fancy_regex.proofs.set.RegexSet.next_in_groups.Given as goal
 
 abbrev pub invariant-candidates : goal.invariant-candidates
 invariant-candidates l = record {
