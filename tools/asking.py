@@ -7,14 +7,36 @@ CALLS = os.environ.get('CALLS', os.path.join(HERE, '../crates/calls/out/calls'))
 FRE = os.environ.get('FRE', os.path.join(HERE, '../crates/fre/out/fre'))
 
 
+def parts(text):
+    """The parts of a text, as bytes, and how many times each stands there. A text that has several parts is a tuple, in which a part that
+    is repeated has a number after it."""
+    out = []
+    for one in text if isinstance(text, tuple) else (text,):
+        if isinstance(one, int):
+            out[-1][1] = one
+        else:
+            out.append([one if isinstance(one, bytes) else one.encode(), 1])
+    return out
+
+
+def data(text):
+    """The bytes of a text."""
+    return b''.join(part * count for part, count in parts(text))
+
+
+def word(text):
+    """A text as a line has it: its parts in hexadecimal with a `+` between them, and a `*` and a number after a part that is repeated."""
+    return '+'.join(part.hex() + ('*%d' % count if count != 1 else '') for part, count in parts(text))
+
+
 def line(call, options, pattern, text, number=0, template=''):
-    """The line that asks for a call. A set has several patterns."""
-    patterns = [pattern] if isinstance(pattern, str) else pattern
-    return ' '.join((call, options, str(number), ','.join(one.encode().hex() for one in (text, template, *patterns))))
+    """The line that asks for a call. A set has several patterns, as a list."""
+    patterns = pattern if isinstance(pattern, list) else [pattern]
+    return ' '.join((call, options, str(number), ','.join(map(word, (text, template, *patterns)))))
 
 
 def texts(line):
-    """The text, the template and the patterns of a line."""
+    """The text, the template and the patterns of a line, of which none has several parts."""
     return [bytes.fromhex(one).decode() for one in line.split(' ')[3].split(',')]
 
 

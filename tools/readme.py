@@ -5,12 +5,15 @@
     tools/readme.py --write   puts the text of the source in the place of each function that differs
 
 Each block of Rust is a whole file, or functions that stand in a file one after another. The table with the columns Pattern, Text
-and Finds is compared with the rows of the tests, and the output of the program with what the gate wants it to print.
+and Finds is compared with the rows that the gate asks, crates/calls/rows.txt, and the output of the program with what the gate
+wants it to print.
 """
 
 import re
 import sys
 from pathlib import Path
+
+import rows
 
 ROOT = Path(__file__).resolve().parent.parent
 PAGES = [ROOT / "README.md", ROOT / "docs/GUIDE.md", ROOT / "crates/fancy_regex/CALLING.md"]
@@ -19,7 +22,6 @@ PROGRAM = ROOT / "crates/dates"
 SOURCES = [
     *EXAMPLES,
     ROOT / "crates/callers/src/lib.rt",
-    ROOT / "crates/fancy_search_tests/src/readme.rt",
     *sorted(PROGRAM.glob("src/*.rt")),
 ]
 
@@ -49,22 +51,26 @@ def renewed(page, functions):
     return BLOCK.sub(renew, page)
 
 
+def searches():
+    """The searches of whole texts under the default options that the gate asks: pattern, text and match."""
+    for _, (kind, *fields) in rows.rows():
+        if kind == "find in" and len(fields) == 4 and fields[2] == 0:
+            yield fields[0], fields[1], fields[3]
+
+
 def row_of(pattern, text, start, end):
-    """A row of the table as the tests write it."""
-    quoted = ['"' + part.replace("\\|", "|").replace("\\", "\\\\") + '"' for part in (pattern, text)]
-    found = f"Some(({start}, {end}))" if start else "None"
-    return f"{quoted[0]}, {quoted[1]}, {found}"
+    """A row of the table as the gate asks it."""
+    return pattern.replace("\\|", "|"), text.replace("\\|", "|"), (int(start), int(end)) if start else None
 
 
-def differences(page, sources):
+def differences(page, sources, asked):
     """What a page says that no source does."""
-    joined = re.sub(r"\s+", " ", " ".join(sources))
     for block in BLOCK.finditer(page):
         if block.group(1) == "rust" and not is_in_a_source(block.group(2), sources):
             yield "no source has this example:\n" + block.group(2)
     for row in ROW.finditer(page):
-        if row_of(*row.groups()) not in joined:
-            yield f"no test has this row: {row.group(0)}"
+        if row_of(*row.groups()) not in asked:
+            yield f"the gate does not ask this row: {row.group(0)}"
 
 
 def missing_output(readme):
@@ -80,7 +86,7 @@ def missing_output(readme):
 def main():
     sources = [path.read_text() for path in SOURCES]
     functions = {name: text for source in sources for name, text in functions_of(source).items()}
-    found = []
+    asked, found = [*searches()], []
     for path in PAGES:
         if not path.exists():
             continue
@@ -88,7 +94,7 @@ def main():
         if "--write" in sys.argv:
             page = renewed(page, functions)
             path.write_text(page)
-        found += [f"{path.name}: {what}" for what in differences(page, sources)]
+        found += [f"{path.name}: {what}" for what in differences(page, sources, asked)]
     found += missing_output(PAGES[0].read_text())
     print("\n".join(found) if found else "Each example is as its source.")
     return 1 if found else 0

@@ -21,9 +21,11 @@ BY_HAND = 24
 # The options that rows have, and their letters in a line. A limit stands after a comma, with its number.
 LETTERS = {
     "case_insensitive": "i", "no_unicode_mode": "U", "only_named": "N", "find_not_empty": "E", "leftmost_longest": "L",
-    "seek": "S", "ascii": "a", "unicode_bytes": "b",
+    "seek": "S", "ascii": "a", "unicode_bytes": "b", "multi_line": "m", "ignore_whitespace": "x", "dot_matches_new_line": "s",
+    "crlf": "R", "overrides": "O", "anchored": "A", "no_start": "H", "no_end": "Z", "no_match_before": "G", "as_bytes": "Y",
 }
-LIMITS = {"backtrack_limit": "B", "stack_limit": "K", "step_limit": "W", "max_prog_size": "P"}
+LIMITS = {"backtrack_limit": "B", "stack_limit": "K", "step_limit": "W", "max_prog_size": "P", "from": "F", "to": "T"}
+TOO_COMPLEX = "error compiling regex: pattern with more than 4000000 nodes, or too much code"
 REFUSALS = {
     "given up": "error executing regex: limit for backtracking exceeded",
     "too many saved": "error executing regex: too many saved branches",
@@ -75,6 +77,13 @@ def found(place):
     return [is_found, span(place)], [is_found] + [span(place)] * 3 + ["within true"]
 
 
+def in_forms(haystack, options):
+    """The letters of a search of the haystack, whether it seeks or not. What is bytes, or has bytes as a part, is searched as bytes."""
+    parts = haystack if isinstance(haystack, tuple) else (haystack,)
+    form = ["as_bytes"] * any(isinstance(one, bytes) for one in parts)
+    return in_options(options, *form), in_options(options, *form, "seek")
+
+
 def answered(line, items):
     """A line whose calls, each made twice, answer these items."""
     answer = "".join(one + "|" for one in items)
@@ -92,6 +101,96 @@ def find(pattern, haystack, place, options=""):
 def find_from(pattern, haystack, start, place, options=""):
     for letters in (in_options(options), in_options(options, "seek")):
         yield answered(asking.line("find_from", letters, pattern, haystack, start), found(place)[1])
+
+
+def find_in(pattern, haystack, start, place, options=""):
+    items = [*found(place)[1][:3], "within true"]
+    for letters in in_forms(haystack, options):
+        yield answered(asking.line("find_in", letters, pattern, haystack, start), items)
+
+
+def find_by_overrides(pattern, haystack, switches, without, place):
+    yield from find_in(pattern, haystack, 0, without, switches)
+    yield from find_in(pattern, haystack, 0, place, switches + " overrides")
+
+
+def given_up(pattern, haystack, refusal, options=""):
+    yield answered(asking.line("find", in_options(options), pattern, haystack), [text(refusal)] * 2)
+    yield answered(asking.line("find_in", in_options(options), pattern, haystack), [text(refusal)] * 3 + ["within true"])
+
+
+def none_in_parts(pattern, haystack):
+    for count in range(len(haystack)):
+        front, rest = haystack[:count], haystack[count:]
+        for part in (front, rest):
+            yield answered(asking.line("find_in", "-", pattern, part), [*found(None)[1][:3], "within true"])
+        yield answered(asking.line("steps", "S", pattern, front), ["none", "0", "0", "true"])
+
+
+def counts(pattern, haystack, start, place, steps, returns, options=""):
+    call, told = ("returns", []) if steps is None else ("steps", [str(steps)])
+    items = [item(place), *told, str(returns), "true"]
+    yield answered(asking.line(call, in_forms(haystack, options)[0], pattern, haystack, start), items)
+
+
+def work(pattern, haystack, place, units, options=""):
+    less = [text({"refused": "out of steps"}), "true"] * 3
+    items = [item(place), str(units), "true", item(place), "true", *less]
+    yield answered(asking.line("work", in_forms(haystack, options)[0], pattern, haystack), items)
+
+
+def bytes_in(pattern, complement, ranges):
+    members = bytes(one for one in range(256) if any(first <= one <= last for first, last in ranges))
+    others = bytes(one for one in range(256) if one not in members)
+    for options in ("ascii", "unicode_bytes no_unicode_mode"):
+        for of, told in ((pattern, members), (complement, others)):
+            yield answered(asking.line("bytes_in", in_options(options), of, ""), ["".join("x%02x" % one for one in told)])
+
+
+def told_characters(pattern, haystack, members, options):
+    items = ["".join(map(text, members))]
+    return answered(asking.line("characters_in", in_options(options), pattern, haystack), items)
+
+
+def ascii_in(pattern, ranges, *all_options):
+    first = "".join(map(chr, range(256)))
+    members = [one for one in first if any(low <= ord(one) <= high for low, high in ranges)]
+    for options in all_options:
+        yield told_characters(pattern, first, members, options)
+        yield told_characters(pattern, "\u0660\u3000\uFF21\uFF3F\U0001D7CE\U0010FFFF", "", options)
+
+
+def characters_in(pattern, complement, members, others):
+    for options in ("", "unicode_bytes"):
+        yield told_characters(pattern, members, members, options)
+        yield told_characters(pattern, others, "", options)
+        yield told_characters(complement, members, "", options)
+        yield told_characters(complement, others, others, options)
+
+
+def regex_told(pattern, number, is_easy):
+    return "%d groups, easy %s, %s" % (number, str(is_easy).lower(), text(pattern))
+
+
+def told(pattern, number, by_default, is_easy, options=""):
+    items = [regex_told(pattern, number, by_default)] * 2 + [regex_told(pattern, number, is_easy)]
+    yield answered(asking.line("build", in_options(options), pattern, ""), items)
+
+
+def size(pattern, number, is_easy, most, is_refused):
+    """A pattern whose code may be so large, by each builder."""
+    plain = regex_told(pattern, number, is_easy)
+    answer = text({"refused": TOO_COMPLEX}) if is_refused else plain
+    options = "max_prog_size=%d" % most
+    yield answered(asking.line("build", in_options(options), pattern, ""), [plain, plain, answer])
+    yield answered(asking.line("build_again", in_options(options), pattern, pattern), [answer, answer])
+
+
+def code(pattern, number, length):
+    """A hard pattern whose code may be as long as it is, or one instruction shorter."""
+    yield answered(asking.line("code", "-", pattern, ""), [str(length)])
+    yield from size(pattern, number, False, length, False)
+    yield from size(pattern, number, False, length - 1, True)
 
 
 def cannot(pattern, haystack, start, options=""):
@@ -117,6 +216,31 @@ def matches(pattern, haystack, places, options=""):
         if not has_groups(pattern):
             items = [item(one, lambda place: groups([place])) for one in places]
             yield answered(asking.line("capture_matches", letters, pattern, haystack), items)
+
+
+def matches_after(pattern, filler, count, tail, places):
+    """The matches, by places from where the tail begins: in text, in bytes, and from there on."""
+    haystack, start = (filler, count, tail), len(filler.encode()) * count
+    items = [span((start + first, start + last)) for first, last in places]
+    yield answered(asking.line("matches", "-", pattern, haystack), items)
+    yield answered(asking.line("matches", "Y", pattern, haystack), items)
+    yield answered(asking.line("matches", "-", pattern, haystack, start), items)
+
+
+def list_in(pattern, haystack, start, places, options=""):
+    told = [text(pattern), "x" + asking.data(haystack).hex()]
+    items = [*told, *map(span, places), "true", *told, str(start), *map(span, places)]
+    for letters in in_forms(haystack, options):
+        yield answered(asking.line("list", letters, pattern, haystack, start), items)
+
+
+def walk(pattern, haystack, start, places, starts, options=""):
+    yield from list_in(pattern, haystack, start, places, options)
+    ends = len(asking.data(haystack)) + 3 - len(places)
+    known = [*starts[:len(places) + 1], *[starts[-1]] * (ends - 1)]
+    items = [it for pair in zip(map(str, known), [*map(span, places), *["end"] * ends]) for it in pair]
+    for letters in in_forms(haystack, options):
+        yield answered(asking.line("walk", letters, pattern, haystack, start), items)
 
 
 def groups_of_matches(pattern, haystack, start, all_groups, options=""):
@@ -232,7 +356,10 @@ in_set = matches_of_set("in_set", of_pattern)
 groups_in_set = matches_of_set("groups_in_set", groups_of_pattern)
 
 KINDS = {
-    "find": find, "find from": find_from, "cannot": cannot, "captures": captures, "captures from": captures_from,
+    "find": find, "find from": find_from, "find in": find_in, "find by overrides": find_by_overrides, "given up": given_up,
+    "none in parts": none_in_parts, "counts": counts, "work": work, "cannot": cannot, "bytes in": bytes_in, "ASCII in": ascii_in,
+    "characters in": characters_in, "told": told, "size": size, "code": code, "matches after": matches_after, "list": list_in,
+    "walk": walk, "captures": captures, "captures from": captures_from,
     "names": names, "matches": matches, "groups of matches": groups_of_matches, "split": split, "splitn": splitn,
     "replace": replace, "expand": expand, "expand as in Python": expand_as_in_python, "check": check, "escape": escape,
     "bytes": bytes_of_matches, "set": size_of_set, "in set": in_set, "groups in set": groups_in_set, "in sets": of_any_size(in_set),

@@ -52,6 +52,9 @@ def searches():
                 (r'(?m:^)(\d+)', '1 test 123\n2 foo', 7, '11..12'), ('a', 'a', 2, 'none'), (r'(\w+) \1', MIRRORS, 0, '0..13'),
                 ('(?:a|b|ab)*bc', 'ab' * 28 + 'ac', 0, 'none')):
             yield 'find_from', options, pattern, text, start, '', found_from(span)
+        for letters, pattern, text, start, span in (
+                (',F1,T3', 'a|ab', 'xabab', 0, '1..2'), ('A', 'abc', 'zabc', 1, '1..4'), ('Y', '(a)\\1', 'baa', 1, '1..3')):
+            yield 'find_in', options + letters, pattern, text, start, '', ['true', span, span, 'within true']
     # more is saved on the way than the runner keeps, which goes on place by place
     yield 'captures', '-', '((a)|(b))*c', 'ab' * 10000 + 'c', 0, '', ['0..20001,19999..20000,19998..19999,19999..20000,'] * 3
     yield 'find', '-', '(?:a|b)*c', 'ab' * 10000 + 'd', 0, '', found('none')

@@ -1,6 +1,6 @@
 //! What is made of patterns, and the calls that make it.
 
-use crate::cases::{Ask, Asked, options_of};
+use crate::cases::{Ask, Asked, number_after, options_of};
 use crate::explanations::explain;
 use crate::items::write_item;
 use fancy_regex::{Expander, Regex, RegexBuilder, RegexSet, Result, escape};
@@ -61,15 +61,24 @@ fn build<W: io::Write>(asked: Asked<'_>, out: &mut W) {
     write_item(regex_of(asked), out);
 }
 
+/// A builder with the pattern of the line, and the limit of its code where the line has one.
+fn builder_of(asked: Asked<'_>) -> Result<RegexBuilder> {
+    let mut builder = RegexBuilder::new(asked.alloc, asked.pattern())?;
+    if let Some(size) = number_after(asked.letters, 'P') {
+        builder.max_prog_size(size);
+    }
+    Ok(builder)
+}
+
 fn by_builder(asked: Asked<'_>) -> Result<Regex> {
-    let builder = RegexBuilder::new(asked.alloc, asked.pattern())?;
+    let builder = builder_of(asked)?;
     builder.build()
 }
 
 /// The text of the line as the pattern of a builder, in the place of the line's pattern.
 fn by_builder_again(asked: Asked<'_>) -> Result<Regex> {
     let text = String::from_str(asked.alloc, asked.text)?;
-    let mut builder = RegexBuilder::new(asked.alloc, asked.pattern())?;
+    let mut builder = builder_of(asked)?;
     builder.pattern(text).build()
 }
 

@@ -3,7 +3,7 @@
 use crate::builds::{Nothing, regex_of, set_of};
 use crate::fields::{begin, end, lent, texts_of};
 use crate::sets::from_regexes;
-use fancy_regex::{BytesMode, RegexInput, RegexOptionsBuilder, Result};
+use fancy_regex::{BytesMode, Input, RegexInput, RegexOptionsBuilder, Result};
 use std::alloc::Global;
 use std::io;
 
@@ -15,6 +15,8 @@ pub(crate) struct Asked<'a> {
     pub(crate) letters: &'a str,
     pub(crate) number: usize,
     pub(crate) text: &'a str,
+    /// The text as bytes, which may be none.
+    pub(crate) bytes: &'a [u8],
     pub(crate) template: &'a str,
     pub(crate) patterns: &'a [&'a str],
 }
@@ -33,10 +35,28 @@ impl<'a> Asked<'a> {
         options_of(self.letters)
     }
 
-    /// The text from the byte offset of the line on.
+    /// The text from the byte offset of the line on, as its letters say.
     pub(crate) fn input(&self) -> RegexInput<&'a str> {
-        RegexInput::new(self.text).from_pos(self.number)
+        input_of(self.text, self.letters).from_pos(self.number)
     }
+
+    /// The same of its bytes.
+    pub(crate) fn input_of_bytes(&self) -> RegexInput<&'a [u8]> {
+        input_of(self.bytes, self.letters).from_pos(self.number)
+    }
+}
+
+/// The haystack, within the range that the letters of a line give, and with their settings.
+fn input_of<S: Input>(haystack: S, letters: &str) -> RegexInput<S> {
+    let length = haystack.len();
+    let end = number_after(letters, 'T').unwrap_or(length).min(length);
+    let start = number_after(letters, 'F').unwrap_or(0).min(end);
+    RegexInput::new(haystack)
+        .range(start..end)
+        .anchored(letters.contains('A'))
+        .start_text(!letters.contains('H'))
+        .end_text(!letters.contains('Z'))
+        .continue_from_previous_match_end(!letters.contains('G'))
 }
 
 /// What calls are made of.
@@ -73,23 +93,23 @@ pub(crate) fn options_of(letters: &str) -> RegexOptionsBuilder {
         .leftmost_longest(letters.contains('L'))
         .seek(letters.contains('S'))
         .bytes_mode(mode_of(letters));
-    if let Some(limit) = limit_of(letters, 'B') {
+    if let Some(limit) = number_after(letters, 'B') {
         options.backtrack_limit(limit);
     }
-    if let Some(limit) = limit_of(letters, 'K') {
+    if let Some(limit) = number_after(letters, 'K') {
         options.stack_limit(limit);
     }
-    if let Some(limit) = limit_of(letters, 'W') {
+    if let Some(limit) = number_after(letters, 'W') {
         options.step_limit(limit);
     }
-    if let Some(size) = limit_of(letters, 'P') {
+    if let Some(size) = number_after(letters, 'P') {
         options.max_prog_size(size);
     }
     options
 }
 
-/// The limit that a letter of the word stands before: of returns is 2 in `S,B2`.
-fn limit_of(letters: &str, letter: char) -> Option<usize> {
+/// The number that a letter of the word stands before: after `B` it is 2 in `S,B2`.
+pub(crate) fn number_after(letters: &str, letter: char) -> Option<usize> {
     for part in letters.split(',') {
         if let Some(number) = part.strip_prefix(letter) {
             return number.parse::<usize>().ok();
@@ -119,11 +139,14 @@ pub(crate) fn answer<W: io::Write>(alloc: Global, line: &str, out: &mut W) -> Re
 fn answer_words<W: io::Write>(
     alloc: Global,
     [call, letters, number, _]: [&str; 4],
-    texts: &[String],
+    texts: &[Vec<u8>],
     out: &mut W,
 ) -> Result<()> {
-    let texts = lent(alloc, texts)?;
-    let [text, template, patterns @ ..] = texts.as_slice() else {
+    let [bytes, ..] = texts else {
+        return Ok(());
+    };
+    let lent = lent(alloc, texts)?;
+    let [text, template, patterns @ ..] = lent.as_slice() else {
         return Ok(());
     };
     let asked = Asked {
@@ -132,6 +155,7 @@ fn answer_words<W: io::Write>(
         letters,
         number: number.parse::<usize>().unwrap_or(0),
         text: *text,
+        bytes: bytes.as_slice(),
         template: *template,
         patterns,
     };

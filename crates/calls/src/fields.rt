@@ -14,34 +14,50 @@ fn digit(byte: u8) -> u8 {
     }
 }
 
-/// The text that is given in hexadecimal; what is no text is the empty one.
-fn text_of(alloc: Global, word: &str) -> Result<String> {
+/// The bytes that are given in hexadecimal.
+fn bytes_of(alloc: Global, word: &str) -> Result<Vec<u8>> {
     let mut bytes = Vec::new(alloc);
     for pair in word.as_bytes().chunks(2) {
         if let [high, low] = pair {
             bytes.push(digit(*high).wrapping_mul(16).wrapping_add(digit(*low)))?;
         }
     }
-    match String::from_utf8(bytes) {
-        Ok(text) => Ok(text),
-        Err(_) => Ok(String::new(alloc)),
-    }
+    Ok(bytes)
 }
 
-/// The texts that a word gives, split by commas.
-pub(crate) fn texts_of(alloc: Global, word: &str) -> Result<Vec<String>> {
+/// Adds what a part of a word gives: bytes in hexadecimal, so many times where a `*` and a number follow.
+fn push_part(bytes: &mut Vec<u8>, alloc: Global, part: &str) -> Result<()> {
+    let (word, count) = part.split_once('*').unwrap_or((part, "1"));
+    let unit = bytes_of(alloc, word)?;
+    for _ in 0..count.parse::<usize>().unwrap_or(0) {
+        bytes.extend_from_slice(&unit)?;
+    }
+    Ok(())
+}
+
+/// The bytes that a word gives, part by part.
+fn joined(alloc: Global, word: &str) -> Result<Vec<u8>> {
+    let mut bytes = Vec::new(alloc);
+    for part in word.split('+') {
+        push_part(&mut bytes, alloc, part)?;
+    }
+    Ok(bytes)
+}
+
+/// The texts that a word gives, split by commas, as bytes.
+pub(crate) fn texts_of(alloc: Global, word: &str) -> Result<Vec<Vec<u8>>> {
     let mut texts = Vec::new(alloc);
     for part in word.split(',') {
-        texts.push(text_of(alloc, part)?)?;
+        texts.push(joined(alloc, part)?)?;
     }
     Ok(texts)
 }
 
-/// The same texts, lent.
-pub(crate) fn lent(alloc: Global, texts: &[String]) -> Result<Vec<&str>> {
+/// The same texts, lent; what is no text is the empty one.
+pub(crate) fn lent(alloc: Global, texts: &[Vec<u8>]) -> Result<Vec<&str>> {
     let mut all = Vec::new(alloc);
     for text in texts {
-        all.push(text.as_str())?;
+        all.push(str::from_utf8(text).unwrap_or(""))?;
     }
     Ok(all)
 }
@@ -54,6 +70,12 @@ pub(crate) fn write_text<W: io::Write>(text: &str, out: &mut W) {
 /// Writes a number.
 pub(crate) fn write_number<W: io::Write>(number: usize, out: &mut W) {
     let _ = write!(out, "{number}");
+}
+
+/// Writes a number as an item.
+pub(crate) fn write_count<W: io::Write>(count: usize, out: &mut W) {
+    write_number(count, out);
+    write_text("|", out);
 }
 
 /// Writes `true` or `false`.

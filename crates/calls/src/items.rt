@@ -6,7 +6,9 @@ use crate::fields::{
     write_bool, write_byte, write_bytes, write_indexed, write_number, write_refusal, write_span,
     write_text,
 };
-use fancy_regex::{ByteSet, Captures, Match, Regex, RegexSet, RegexSetMatch, Result, Token};
+use fancy_regex::{
+    ByteSet, Captures, Input, Match, MatchBytes, Regex, RegexSet, RegexSetMatch, Result, Token,
+};
 use std::alloc::Global;
 use std::borrow::CowStr;
 use std::io;
@@ -86,8 +88,14 @@ impl Item for Match<'_> {
     }
 }
 
+impl Item for MatchBytes<'_> {
+    fn tell<W: io::Write>(&self, out: &mut W) {
+        write_span((self.start(), self.end()), out);
+    }
+}
+
 /// Tells the groups, with a comma after each.
-impl Item for Captures<'_, &str> {
+impl<M: Item, S: Input<Match = M>> Item for Captures<'_, S> {
     fn tell<W: io::Write>(&self, out: &mut W) {
         for group in self.iter() {
             group.tell(out);

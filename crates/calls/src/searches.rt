@@ -1,8 +1,11 @@
 //! Calls of a regex.
 
 use crate::cases::{Ask, Asked};
-use crate::fields::{write_bytes, write_number, write_refusal, write_text};
+use crate::fields::{write_bytes, write_count, write_number, write_refusal, write_text};
 use crate::items::{Item, write_all, write_item};
+use crate::members::{bytes, characters};
+use crate::parts;
+use crate::parts::is_within;
 use crate::templates::{check, replace, replace_by};
 use fancy_regex::{Regex, RegexInput, Replacer, Work};
 use std::io;
@@ -14,15 +17,26 @@ impl Ask for Regex {
             "find_from" => find_from(self, asked, out),
             "captures" => capture(self, asked, out),
             "names" => names(self, out),
-            "matches" => matches(self, asked, out),
-            "capture_matches" => capture_matches(self, asked, out),
             "split" => split(self, asked, out),
             "splitn" => splitn(self, asked, out),
             "replace" => replace(self, asked, out),
             "replace_by" => replace_by(self, asked, out),
             "check" => check(self, asked, out),
-            _ => tell(self, asked, out),
+            "code" => write_count(self.code_len(), out),
+            "bytes_in" => bytes(self, out),
+            "characters_in" => characters(self, asked, out),
+            "tell" => tell(self, asked, out),
+            _ => search(self, asked, out),
         }
+    }
+}
+
+/// Makes a call that takes an input, of text or of bytes.
+fn search<W: io::Write>(regex: &Regex, asked: Asked<'_>, out: &mut W) {
+    if asked.letters.contains('Y') {
+        parts::ask(regex, asked, asked.input_of_bytes(), out);
+    } else {
+        parts::ask(regex, asked, asked.input(), out);
     }
 }
 
@@ -38,12 +52,6 @@ fn find<W: io::Write>(regex: &Regex, asked: Asked<'_>, out: &mut W) {
     }
     write_item(regex.is_match(asked.text), out);
     write_item(regex.find(asked.text), out);
-}
-
-/// Whether the counts are within the bounds of a regex that searches so many bytes.
-fn is_within(regex: &Regex, work: &Work, length: usize) -> bool {
-    let bound = regex.code_len().saturating_mul(length.saturating_add(1));
-    work.returns() <= 1_000_000 && (!regex.is_easy() || work.steps() <= bound)
 }
 
 /// The first match from the byte offset of the line on, by the calls that take an input, with its counts.
@@ -82,24 +90,6 @@ fn names<W: io::Write>(regex: &Regex, out: &mut W) {
         }
         Err(error) => write_refusal(&error, out),
     }
-}
-
-/// The matches from the byte offset of the line on.
-fn matches<W: io::Write>(regex: &Regex, asked: Asked<'_>, out: &mut W) {
-    let input = asked.input();
-    if !regex.can_search(&input) {
-        return cannot(out);
-    }
-    write_all(regex.find_iter_input(input), out);
-}
-
-/// The matches from the byte offset of the line on, with their groups.
-fn capture_matches<W: io::Write>(regex: &Regex, asked: Asked<'_>, out: &mut W) {
-    let input = asked.input();
-    if !regex.can_search(&input) {
-        return cannot(out);
-    }
-    write_all(regex.captures_iter_input(input), out);
 }
 
 /// The pieces of the text.

@@ -3,7 +3,7 @@
 ghost use Rattle.std.specs.Iterator.{IsFinite};
 
 use crate::cases::{Ask, Asked};
-use crate::fields::{begin, end, write_number, write_refusal, write_text};
+use crate::fields::{begin, end, write_count, write_number, write_refusal, write_text};
 use crate::items::{Item, write_all, write_item};
 use crate::searches::cannot;
 use fancy_regex::{Regex, RegexInput, RegexSet, RegexSetMatch, RegexSetMatchesAt, Result};
@@ -17,12 +17,6 @@ impl Ask for RegexSet {
             _ => tell(self, asked, out),
         }
     }
-}
-
-/// Writes a number as an item.
-fn write_count<W: io::Write>(count: usize, out: &mut W) {
-    write_number(count, out);
-    write_text("|", out);
 }
 
 /// Writes a place as an item.

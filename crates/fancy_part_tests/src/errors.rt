@@ -1,7 +1,7 @@
 //! What errors print.
 
 use crate::asking::check;
-use fancy_regex::{CompileError, Error, ParseErrorKind, RuntimeError};
+use fancy_tree::error::{CompileError, Error, ParseErrorKind, RuntimeError};
 use std::alloc::Global;
 use std::process::Abort;
 

@@ -1,6 +1,6 @@
 //! Why a pattern is refused.
 
-use fancy_regex::{CompileError, Error, Result};
+use fancy_tree::error::{CompileError, Error, Result};
 
 /// Whether a pattern is refused for its many nodes, or for too much code.
 pub(crate) fn is_too_complex<T>(answer: &Result<T>) -> bool {

@@ -1,0 +1,13 @@
+//! What the tests ask of a builder, of a pattern set and of its tokens, and for each kind of call one function that checks it.
+
+mod fact;
+mod sets;
+mod spans;
+mod tokens;
+mod verdicts;
+
+pub(crate) use fact::check;
+pub(crate) use sets::{Item, check_matches_at, searched};
+pub(crate) use spans::{Span, check_read, is_part, owned};
+pub(crate) use tokens::check_tokens_within;
+pub(crate) use verdicts::{Verdict, check_verdict, is_given_up};
