@@ -25,14 +25,19 @@ KEPT = Path(os.environ.get("LOFTLAVENDER_KEPT") or Path.home() / ".cache/loftlav
 PARTS = ("src", "specs", "proofs")
 
 
-def crates_of(root):
-    """The crates that a repository's crates.txt names: of each its words before the colon, and the libraries that it uses."""
+def crates_of(text):
+    """The crates that a crates.txt names: of each its words before the colon, and the libraries that it uses."""
     found = {}
-    for line in (root / "crates.txt").read_text(encoding="utf-8").splitlines():
+    for line in text.splitlines():
         name, colon, used = line.partition("#")[0].partition(":")
         if colon:
             found[name.split()[0]] = (name.split(), used.split())
     return found
+
+
+def crates_in(root):
+    """The crates of a repository."""
+    return crates_of((root / "crates.txt").read_text(encoding="utf-8"))
 
 
 def below(names, crates):
@@ -50,7 +55,7 @@ class Store:
     """What was proved on this machine, by sums of all that it was proved from."""
 
     def __init__(self, root, kit):
-        self.root, self.kit, self.crates = root, Path(kit, "KIT-ID").read_bytes(), crates_of(root)
+        self.root, self.kit, self.crates = root, Path(kit, "KIT-ID").read_bytes(), crates_in(root)
         self.sum = functools.cache(self.sum_of)
 
     def sum_of(self, name):
@@ -151,7 +156,7 @@ def main():
     if names[:1] == ["--lay"]:
         print("\n".join(lay_out(root, names[1:])))
         return 0
-    unknown = [it for it in names if it not in crates_of(root)]
+    unknown = [it for it in names if it not in crates_in(root)]
     if unknown:
         print(__doc__ if unknown[0].startswith("-") else f"crates.txt has no crate {unknown[0]}", file=sys.stderr)
         return 2
