@@ -131,7 +131,7 @@ module _ (a : Attempt) (place kept deep : ℕ) where
       sym (ap (first_accepted (ends_well (may_end_in a))) (refuted (context_in a) a.last (instrs_in a) deep kept (begins_in a q place).current known t next is e))
 
   -- a group begins
-  opened_on : (o : Option ℕ) (q next : ℕ) → OpensTo (instrs_in a) o q next → KnownIn a kept deep (begins_in a q place)
+  pub opened_on : (o : Option ℕ) (q next : ℕ) → OpensTo (instrs_in a) o q next → KnownIn a kept deep (begins_in a q place)
       → KnownIn a kept deep (begins_with a o next place) × (first_accepted_in a kept deep (begins_in a q place) ≡ first_accepted_in a kept deep (begins_with a o next place))
   opened_on None q next same known = (
     subst (λ (i : ℕ). KnownIn a kept deep (begins_in a i place)) same known,

@@ -13,3 +13,4 @@ pub mod LimitLemmas
 pub mod RunLemmas
 pub mod ChoiceLemmas
 pub mod BranchLemmas
+pub mod FirstItemLemmas

@@ -233,6 +233,39 @@ marked_gone gone words m n flags is within early =
       same = λ e. refl;
     }
 
+-- what is read of a pair, in a word that was forgotten, in another one, and past the words
+pub read_gone : (gone : ℕ) (words : List ℕ) (m n : ℕ) (flags : List Bool) → bits_of (with_gone gone words) m ≡ flags → n < length flags → n / 64 < gone → true ≡ get_or flags n false
+read_gone gone words m n flags is within early =
+    let n_in : n < m = omega (arith, length-bits_of (with_gone gone words) m, ap length is) in
+    sym (ap (λ (x : List Bool). get_or x n false) (sym is) ∙ get_or-bits_of (with_gone gone words) m n false n_in ∙ bit_gone gone words n early)
+
+pub read_kept : (gone : ℕ) (words : List ℕ) (m n : ℕ) (flags : List Bool) → bits_of (with_gone gone words) m ≡ flags → n < length flags → gone ≤ n / 64
+    → get_or flags n false ≡ eqb (bit_at (get_or words (n / 64 - gone) 0) (n % 64)) 1
+read_kept gone words m n flags is within past =
+    let n_in : n < m = omega (arith, length-bits_of (with_gone gone words) m, ap length is) in
+    ap (λ (x : List Bool). get_or x n false) (sym is)
+    ∙ get_or-bits_of (with_gone gone words) m n false n_in
+    ∙ ap (λ x. eqb (bit_at x (n % 64)) 1) (word_kept gone words (n / 64) 0 past)
+
+twice : (b : Bool) → not (not b) ≡ b
+twice true = refl
+twice false = refl
+
+pub read_word : (gone : ℕ) (words : List ℕ) (m n word : ℕ) (flags : List Bool) → bits_of (with_gone gone words) m ≡ flags → n < length flags → gone ≤ n / 64
+    → n / 64 - gone < length words → word ≡ get_or words (n / 64 - gone) word → not (eqb (bit_and word (1 * 2 ^ (n % 64) % 2 ^ 64)) 0) ≡ get_or flags n false
+read_word gone words m n word flags is within past word_in found =
+    ap not (bit_clear word (n % 64) (omega arith))
+    ∙ twice (eqb (bit_at word (n % 64)) 1)
+    ∙ ap (λ x. eqb (bit_at x (n % 64)) 1) (get_or_read words (n / 64 - gone) word word_in found 0)
+    ∙ sym (read_kept gone words m n flags is within past)
+
+pub read_past : (gone : ℕ) (words : List ℕ) (m n : ℕ) (flags : List Bool) → bits_of (with_gone gone words) m ≡ flags → n < length flags → gone ≤ n / 64
+    → length words ≤ n / 64 - gone → false ≡ get_or flags n false
+read_past gone words m n flags is within past none =
+    sym (read_kept gone words m n flags is within past
+    ∙ ap (λ x. eqb (bit_at x (n % 64)) 1) (get_or-past words (n / 64 - gone) none)
+    ∙ ap (λ x. eqb x 1) (bit_at-zero (n % 64)))
+
 -- a mark in another word
 pub marking_kept : (gone : ℕ) (words more : List ℕ) (m pad n word : ℕ) (flags : List Bool) → bits_of (with_gone gone words) m ≡ flags → n < length flags → gone ≤ n / 64
     → more ≡ words ++ replicate pad 0 → n / 64 - gone < length more → word ≡ get_or more (n / 64 - gone) word

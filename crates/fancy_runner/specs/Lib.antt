@@ -9,5 +9,6 @@ pub mod Backlog
 pub mod Refusals
 pub mod Rows
 pub mod Sweeps
+pub mod FirstItem
 pub mod Groups
 pub mod KeptTable

@@ -2,6 +2,7 @@
 #![tactic(auto)]
 
 mod backlog;
+mod first_item;
 pub mod notes;
 pub mod pair;
 pub mod refusal;

@@ -15,6 +15,7 @@ ghost use Rattle.fancy_runner.specs.Groups.{groups_in};
 ghost use Rattle.fancy_runner.specs.Refusals.{IsRunnersRefusal};
 ghost use Rattle.fancy_input.specs.Work.{steps_of, returns_of, RunsWithin, IsSpent, HasWorkFor};
 
+use crate::first_item::pass_followed;
 pub use crate::notes::Cache;
 use crate::notes::KeptTable;
 use crate::start::follow_start;
@@ -215,13 +216,8 @@ pub fn search(
                 }));
             }
         }
-        place = next_opening(
-            &code.prefilter,
-            haystack,
-            request.range_end,
-            place + 1,
-            last,
-        );
+        let from = pass_followed(&attempt, place + 1, last, &cache.notes.table);
+        place = next_opening(&code.prefilter, haystack, request.range_end, from, last);
     }
     *kept = Some(KeptTable { base, from: place });
     Ok(None)

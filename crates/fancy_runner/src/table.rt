@@ -111,6 +111,24 @@ impl Table {
         word & bit == 0
     }
 
+    /// Whether a pair was visited.
+    #[inline]
+    pub fn has(&self, n: usize) -> bool
+        requires { n < length self.now }
+        ensures { result ≡ slice_index_or self.now n false }
+    {
+        let at = n / 64;
+        if at < self.gone {
+            return true;
+        }
+        let at = at - self.gone;
+        if at >= self.words.len() {
+            return false;
+        }
+        let word = self.words[at];
+        word & (1u64 << (n % 64)) != 0
+    }
+
     /// Takes the mark of a pair away, if it has one. It takes no memory.
     fn unmark(&mut self, n: usize)
         requires { n < length self.old }

@@ -18,6 +18,7 @@ use Rattle.fancy_code.proofs.PassedLemmas.{openings_passed}
 use Rattle.fancy_input.proofs.WorkLemmas.{runs_on}
 use Rattle.fancy_runner.proofs.RunLemmas.{worked_none, worked_now}
 use Rattle.fancy_runner.specs.declared.notes.Cache.{Cache}
+use Rattle.fancy_runner.proofs.FirstItemLemmas.{followed_passed}
 use Rattle.fancy_runner.proofs.LimitLemmas.{runs_heeded}
 use Rattle.fancy_runner.proofs.search.search.Goals as goal
 use Rattle.fancy_runner.proofs.search.search.Goals.{then-is_match_boundary+in_ok-end+in_default, else-is_match_boundary}
@@ -71,20 +72,23 @@ loop-place-preserved c =
             let found = rw w.in_default.is at (w.in_ok-end.ensures.answer (λ k. omega (arith, c.type_inv.haystack k)) is.branched c.loop-place.place (deep (query_of p c.args.code.now (unfiltered c.args.wanted.options) c.args.haystack.now c.args.wanted.request on) c.args.code.now is refl refl refl refl c.requires.inside (search_context c.args.haystack.now c.args.code.now.meaning c.suppressed_ends.result c.base-base.result) (Some c.base-base.result) (ap (λ (s : SuppressedEnds). search_context c.args.haystack.now c.args.code.now.meaning s c.base-base.result) c.suppressed_ends.ensures))) in
             c.loop-place.invariant.left p on is
             ∙ search_miss (query_of p c.args.code.now (unfiltered c.args.wanted.options) c.args.haystack.now c.args.wanted.request on) (c.last_position-last.result + 1 - c.loop-place.place) (c.last_position-last.result + 1 - (c.loop-place.place + 1)) c.loop-place.place (omega (arith, c.loop-place-test.true)) (sym is_answer ∙ sym (found (attempt_known (query_of p c.args.code.now (unfiltered c.args.wanted.options) c.args.haystack.now c.args.wanted.request on) c.args.code.now is refl refl refl refl c.requires.inside (search_context c.args.haystack.now c.args.code.now.meaning c.suppressed_ends.result c.base-base.result) (Some c.base-base.result) (ap (λ (s : SuppressedEnds). search_context c.args.haystack.now c.args.code.now.meaning s c.base-base.result) c.suppressed_ends.ensures) c.requires.easy c.loop-place.place (first_thread c.args.code.now c.loop-place.place) refl (omega (arith, c.last_position-last.ensures.inside, c.loop-place-test.true))) (c.loop-place.invariant.failed p is)))
-            ∙ openings_passed (query_of p c.args.code.now (unfiltered c.args.wanted.options) c.args.haystack.now c.args.wanted.request on) c.args.code.now is refl c.requires.inside (λ k. omega (arith, c.type_inv.haystack k)) (c.last_position-last.result + 1 - (c.loop-place.place + 1)) (c.last_position-last.result + 1 - c.next_opening-place-in-loop-place.result) (c.loop-place.place + 1) c.next_opening-place-in-loop-place.result c.next_opening-place-in-loop-place.ensures.passed (omega (arith, c.next_opening-place-in-loop-place.ensures.within, c.last_position-last.ensures.inside)) (omega (arith, c.next_opening-place-in-loop-place.ensures.passed, c.next_opening-place-in-loop-place.ensures.within, c.loop-place-test.true)) c.next_opening-place-in-loop-place.ensures.none);
-        begins = omega (arith, c.loop-place.invariant.begins, c.next_opening-place-in-loop-place.ensures.passed);
-        passed = omega (arith, c.loop-place.invariant.passed, c.next_opening-place-in-loop-place.ensures.passed);
+            ∙ followed_passed c.args.code c.args.haystack c.args.wanted.request c.args.wanted.options c.base-base.result c.suppressed_ends.result c.limit_to_heed.result p on is c.requires.inside c.requires.easy (ap (λ (s : SuppressedEnds). search_context c.args.haystack.now c.args.code.now.meaning s c.base-base.result) c.suppressed_ends.ensures)
+            c.if-is_match_boundary.cache.notes.table c.loop-place.place (c.last_position-last.result + 1 - (c.loop-place.place + 1)) (c.last_position-last.result + 1 - c.pass_followed-from.result) (c.loop-place.place + 1) c.pass_followed-from.result (omega arith) c.pass_followed-from.ensures.passed (omega (arith, c.pass_followed-from.ensures.within, c.last_position-last.ensures.inside)) (omega (arith, c.pass_followed-from.ensures.passed, c.pass_followed-from.ensures.within, c.loop-place-test.true))
+            (rw w.cache-is ((rw w.in_default.is at w.in_ok-end.ensures.left) is.branched c.loop-place.place (deep (query_of p c.args.code.now (unfiltered c.args.wanted.options) c.args.haystack.now c.args.wanted.request true) c.args.code.now is refl refl refl refl c.requires.inside (search_context c.args.haystack.now c.args.code.now.meaning c.suppressed_ends.result c.base-base.result) (Some c.base-base.result) (ap (λ (s : SuppressedEnds). search_context c.args.haystack.now c.args.code.now.meaning s c.base-base.result) c.suppressed_ends.ensures)) (attempt_known (query_of p c.args.code.now (unfiltered c.args.wanted.options) c.args.haystack.now c.args.wanted.request true) c.args.code.now is refl refl refl refl c.requires.inside (search_context c.args.haystack.now c.args.code.now.meaning c.suppressed_ends.result c.base-base.result) (Some c.base-base.result) (ap (λ (s : SuppressedEnds). search_context c.args.haystack.now c.args.code.now.meaning s c.base-base.result) c.suppressed_ends.ensures) c.requires.easy c.loop-place.place (first_thread c.args.code.now c.loop-place.place) refl (omega (arith, c.last_position-last.ensures.inside, c.loop-place-test.true))) (c.loop-place.invariant.failed p is))) c.pass_followed-from.ensures.none
+            ∙ openings_passed (query_of p c.args.code.now (unfiltered c.args.wanted.options) c.args.haystack.now c.args.wanted.request on) c.args.code.now is refl c.requires.inside (λ k. omega (arith, c.type_inv.haystack k)) (c.last_position-last.result + 1 - c.pass_followed-from.result) (c.last_position-last.result + 1 - c.next_opening-place-in-loop-place.result) c.pass_followed-from.result c.next_opening-place-in-loop-place.result c.next_opening-place-in-loop-place.ensures.passed (omega (arith, c.next_opening-place-in-loop-place.ensures.within, c.last_position-last.ensures.inside)) (omega (arith, c.next_opening-place-in-loop-place.ensures.passed, c.next_opening-place-in-loop-place.ensures.within, c.pass_followed-from.ensures.within)) c.next_opening-place-in-loop-place.ensures.none);
+        begins = omega (arith, c.loop-place.invariant.begins, c.pass_followed-from.ensures.passed, c.next_opening-place-in-loop-place.ensures.passed);
+        passed = omega (arith, c.loop-place.invariant.passed, c.pass_followed-from.ensures.passed, c.next_opening-place-in-loop-place.ensures.passed);
         within = c.next_opening-place-in-loop-place.ensures.within;
         dropped = c.loop-place.invariant.dropped;
         starts = λ le none. c.loop-place.invariant.starts (omega (arith, c.loop-place-test.true)) none;
         idle = λ none. absurd (c.loop-place.invariant.starts (omega (arith, c.loop-place-test.true)) none);
         failed = λ p is.
             rw w.cache-is
-            (failed_later (is_match_boundary c.args.wanted.options.on_boundaries c.args.haystack.now) (search_context c.args.haystack.now c.args.code.now.meaning c.suppressed_ends.result c.base-base.result) c.loop-place.place c.next_opening-place-in-loop-place.result c.args.wanted.request.range_end (instrs_of c.args.code.now) (depth (length c.args.haystack.now) p + 1) (marks_from c.args.code.now c.base-base.result w.follow_start.new.cache.notes.table) (omega (arith, c.next_opening-place-in-loop-place.ensures.passed))
+            (failed_later (is_match_boundary c.args.wanted.options.on_boundaries c.args.haystack.now) (search_context c.args.haystack.now c.args.code.now.meaning c.suppressed_ends.result c.base-base.result) c.loop-place.place c.next_opening-place-in-loop-place.result c.args.wanted.request.range_end (instrs_of c.args.code.now) (depth (length c.args.haystack.now) p + 1) (marks_from c.args.code.now c.base-base.result w.follow_start.new.cache.notes.table) (omega (arith, c.pass_followed-from.ensures.passed, c.next_opening-place-in-loop-place.ensures.passed))
             ((rw w.in_default.is at w.in_ok-end.ensures.left) is.branched c.loop-place.place (deep (query_of p c.args.code.now (unfiltered c.args.wanted.options) c.args.haystack.now c.args.wanted.request true) c.args.code.now is refl refl refl refl c.requires.inside (search_context c.args.haystack.now c.args.code.now.meaning c.suppressed_ends.result c.base-base.result) (Some c.base-base.result) (ap (λ (s : SuppressedEnds). search_context c.args.haystack.now c.args.code.now.meaning s c.base-base.result) c.suppressed_ends.ensures)) (attempt_known (query_of p c.args.code.now (unfiltered c.args.wanted.options) c.args.haystack.now c.args.wanted.request true) c.args.code.now is refl refl refl refl c.requires.inside (search_context c.args.haystack.now c.args.code.now.meaning c.suppressed_ends.result c.base-base.result) (Some c.base-base.result) (ap (λ (s : SuppressedEnds). search_context c.args.haystack.now c.args.code.now.meaning s c.base-base.result) c.suppressed_ends.ensures) c.requires.easy c.loop-place.place (first_thread c.args.code.now c.loop-place.place) refl (omega (arith, c.last_position-last.ensures.inside, c.loop-place-test.true))) (c.loop-place.invariant.failed p is)));
         room = ap (λ (x : Cache). length x.notes.table) w.cache-is ∙ w.follow_start.ensures.attempted.ran.worked.room ∙ c.loop-place.invariant.room;
         small = omega (arith, ap (λ (x : Cache). length x.notes.table) w.cache-is, w.follow_start.ensures.attempted.ran.worked.room, c.loop-place.invariant.small);
-        spent = (let fewer = later_starts (c.args.wanted.request.range_end + 1 - c.loop-place.place) (c.args.wanted.request.range_end + 1 - c.next_opening-place-in-loop-place.result) (due_of c.args.code.now c.args.code.now.start) (omega (arith, c.next_opening-place-in-loop-place.ensures.passed, c.loop-place-test.true, c.last_position-last.ensures.inside)) in
+        spent = (let fewer = later_starts (c.args.wanted.request.range_end + 1 - c.loop-place.place) (c.args.wanted.request.range_end + 1 - c.next_opening-place-in-loop-place.result) (due_of c.args.code.now c.args.code.now.start) (omega (arith, c.pass_followed-from.ensures.passed, c.next_opening-place-in-loop-place.ensures.passed, c.loop-place-test.true, c.last_position-last.ensures.inside)) in
             omega (arith, ap (owed_of c.args.code.now (c.args.wanted.request.range_end - c.base-base.result + 1)) (ap table_in w.cache-is), ap steps_of w.work-is, w.follow_start.ensures.attempted.ran.paid, fewer, c.loop-place.invariant.spent));
         worked = worked_now (ap (λ (x : Cache). x.notes) w.cache-is) w.work-is c.loop-place.invariant.worked w.follow_start.ensures.attempted.ran.worked;
       }
@@ -92,19 +96,22 @@ loop-place-preserved c =
         left = λ p on is.
             c.loop-place.invariant.left p on is
             ∙ search_miss (query_of p c.args.code.now (unfiltered c.args.wanted.options) c.args.haystack.now c.args.wanted.request on) (c.last_position-last.result + 1 - c.loop-place.place) (c.last_position-last.result + 1 - (c.loop-place.place + 1)) c.loop-place.place (omega (arith, c.loop-place-test.true)) (search_skip (query_of p c.args.code.now (unfiltered c.args.wanted.options) c.args.haystack.now c.args.wanted.request on) c.loop-place.place refl (sym c.is_match_boundary.ensures ∙ w.if-is_match_boundary.false))
-            ∙ openings_passed (query_of p c.args.code.now (unfiltered c.args.wanted.options) c.args.haystack.now c.args.wanted.request on) c.args.code.now is refl c.requires.inside (λ k. omega (arith, c.type_inv.haystack k)) (c.last_position-last.result + 1 - (c.loop-place.place + 1)) (c.last_position-last.result + 1 - c.next_opening-place-in-loop-place.result) (c.loop-place.place + 1) c.next_opening-place-in-loop-place.result c.next_opening-place-in-loop-place.ensures.passed (omega (arith, c.next_opening-place-in-loop-place.ensures.within, c.last_position-last.ensures.inside)) (omega (arith, c.next_opening-place-in-loop-place.ensures.passed, c.next_opening-place-in-loop-place.ensures.within, c.loop-place-test.true)) c.next_opening-place-in-loop-place.ensures.none;
-        begins = omega (arith, c.loop-place.invariant.begins, c.next_opening-place-in-loop-place.ensures.passed);
-        passed = omega (arith, c.loop-place.invariant.passed, c.next_opening-place-in-loop-place.ensures.passed);
+            ∙ followed_passed c.args.code c.args.haystack c.args.wanted.request c.args.wanted.options c.base-base.result c.suppressed_ends.result c.limit_to_heed.result p on is c.requires.inside c.requires.easy (ap (λ (s : SuppressedEnds). search_context c.args.haystack.now c.args.code.now.meaning s c.base-base.result) c.suppressed_ends.ensures)
+            c.if-is_match_boundary.cache.notes.table c.loop-place.place (c.last_position-last.result + 1 - (c.loop-place.place + 1)) (c.last_position-last.result + 1 - c.pass_followed-from.result) (c.loop-place.place + 1) c.pass_followed-from.result (omega arith) c.pass_followed-from.ensures.passed (omega (arith, c.pass_followed-from.ensures.within, c.last_position-last.ensures.inside)) (omega (arith, c.pass_followed-from.ensures.passed, c.pass_followed-from.ensures.within, c.loop-place-test.true))
+            (rw w.cache-is (c.loop-place.invariant.failed p is)) c.pass_followed-from.ensures.none
+            ∙ openings_passed (query_of p c.args.code.now (unfiltered c.args.wanted.options) c.args.haystack.now c.args.wanted.request on) c.args.code.now is refl c.requires.inside (λ k. omega (arith, c.type_inv.haystack k)) (c.last_position-last.result + 1 - c.pass_followed-from.result) (c.last_position-last.result + 1 - c.next_opening-place-in-loop-place.result) c.pass_followed-from.result c.next_opening-place-in-loop-place.result c.next_opening-place-in-loop-place.ensures.passed (omega (arith, c.next_opening-place-in-loop-place.ensures.within, c.last_position-last.ensures.inside)) (omega (arith, c.next_opening-place-in-loop-place.ensures.passed, c.next_opening-place-in-loop-place.ensures.within, c.pass_followed-from.ensures.within)) c.next_opening-place-in-loop-place.ensures.none;
+        begins = omega (arith, c.loop-place.invariant.begins, c.pass_followed-from.ensures.passed, c.next_opening-place-in-loop-place.ensures.passed);
+        passed = omega (arith, c.loop-place.invariant.passed, c.pass_followed-from.ensures.passed, c.next_opening-place-in-loop-place.ensures.passed);
         within = c.next_opening-place-in-loop-place.ensures.within;
         dropped = c.loop-place.invariant.dropped;
         starts = λ le none. c.loop-place.invariant.starts (omega (arith, c.loop-place-test.true)) none;
         idle = λ none. absurd (c.loop-place.invariant.starts (omega (arith, c.loop-place-test.true)) none);
         failed = λ p is.
             rw w.cache-is
-            (failed_later (is_match_boundary c.args.wanted.options.on_boundaries c.args.haystack.now) (search_context c.args.haystack.now c.args.code.now.meaning c.suppressed_ends.result c.base-base.result) c.loop-place.place c.next_opening-place-in-loop-place.result c.args.wanted.request.range_end (instrs_of c.args.code.now) (depth (length c.args.haystack.now) p + 1) (marks_from c.args.code.now c.base-base.result c.loop-place.cache.notes.table) (omega (arith, c.next_opening-place-in-loop-place.ensures.passed)) (c.loop-place.invariant.failed p is));
+            (failed_later (is_match_boundary c.args.wanted.options.on_boundaries c.args.haystack.now) (search_context c.args.haystack.now c.args.code.now.meaning c.suppressed_ends.result c.base-base.result) c.loop-place.place c.next_opening-place-in-loop-place.result c.args.wanted.request.range_end (instrs_of c.args.code.now) (depth (length c.args.haystack.now) p + 1) (marks_from c.args.code.now c.base-base.result c.loop-place.cache.notes.table) (omega (arith, c.pass_followed-from.ensures.passed, c.next_opening-place-in-loop-place.ensures.passed)) (c.loop-place.invariant.failed p is));
         room = ap (λ (x : Cache). length x.notes.table) w.cache-is ∙ c.loop-place.invariant.room;
         small = omega (arith, ap (λ (x : Cache). length x.notes.table) w.cache-is, c.loop-place.invariant.small);
-        spent = (let fewer = later_starts (c.args.wanted.request.range_end + 1 - c.loop-place.place) (c.args.wanted.request.range_end + 1 - c.next_opening-place-in-loop-place.result) (due_of c.args.code.now c.args.code.now.start) (omega (arith, c.next_opening-place-in-loop-place.ensures.passed, c.loop-place-test.true, c.last_position-last.ensures.inside)) in
+        spent = (let fewer = later_starts (c.args.wanted.request.range_end + 1 - c.loop-place.place) (c.args.wanted.request.range_end + 1 - c.next_opening-place-in-loop-place.result) (due_of c.args.code.now c.args.code.now.start) (omega (arith, c.pass_followed-from.ensures.passed, c.next_opening-place-in-loop-place.ensures.passed, c.loop-place-test.true, c.last_position-last.ensures.inside)) in
             omega (arith, ap (owed_of c.args.code.now (c.args.wanted.request.range_end - c.base-base.result + 1)) (ap table_in w.cache-is), ap steps_of w.work-is, fewer, c.loop-place.invariant.spent));
         worked = worked_now (ap (λ (x : Cache). x.notes) w.cache-is) w.work-is c.loop-place.invariant.worked (worked_none c.loop-place.invariant.worked.last_lines);
       }
