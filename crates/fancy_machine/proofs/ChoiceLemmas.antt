@@ -1,5 +1,5 @@
 -- An attempt at a choice that is told: what it seeks where the byte leads that stands there.
-use Rattle.std.proofs.Common.{◌≡◌, ℕ, ◌+◌, ◌<◌, ◌≤◌, List, [], ◌∷◌, Option, Some, inl, inr, refl, sym, ap, ap₂, ◌∙◌, subst, arith}
+use Rattle.std.proofs.Common.{◌≡◌, ℕ, ◌+◌, ◌<◌, ◌≤◌, List, [], ◌∷◌, length, Option, Some, refl, sym, ap, ap₂, ◌∙◌, subst, arith}
 use Rattle.std.specs.Prelude.{slice_get}
 use Rattle.std.proofs.lemmas.Option.{same_Some}
 use Rattle.std.proofs.Math.Logic.{∥∥₁_elim}
@@ -8,19 +8,19 @@ use mathlib.Core.HLevel.{is_prop→PathP}
 use Rattle.fancy_meaning.specs.Context.{Context, State}
 use Rattle.fancy_code.specs.Code.{instrs_of}
 use Rattle.fancy_code.specs.Instructions.{Instruction}
-use Rattle.fancy_code.specs.Run.{Raw}
+use Rattle.fancy_code.specs.Run.{Raw, run}
 use Rattle.fancy_code.specs.declared.step.Next.TheVariants.{On, Dead}
 use Rattle.fancy_prices.specs.declared.choices.Onward.{Onward}
-use Rattle.fancy_prices.specs.declared.choices.Onward.TheVariants.{Ends, Goes, Splits}
+use Rattle.fancy_prices.specs.declared.choices.Onward.TheVariants.{Ends, Goes, Reads}
 use Rattle.fancy_prices.specs.declared.choices.Passage.{Passage}
 use Rattle.fancy_prices.specs.declared.choices.ToldChoice.{ToldChoice}
-use Rattle.fancy_prices.specs.Splits.{IsToldChoice, Leads, Passes, SplitsOver}
+use Rattle.fancy_prices.specs.Splits.{IsToldChoice, Leads, LeadsTo, Passes, ReadsByte, ways_of}
 use Rattle.fancy_machine.specs.declared.attempt.Attempt.{Attempt}
 use Rattle.fancy_machine.specs.Attempt.{attempt_context, accepts, code_in, Seeks, SeeksBack, Advanced, size_ahead}
-use Rattle.fancy_machine.specs.Choices.{IsTaken}
-use Rattle.fancy_machine.specs.Frames.{Frame, Held, Saved, saved}
-use Rattle.fancy_machine.specs.Machine.{finish, left, at_instr}
-use Rattle.fancy_machine.proofs.PassLemmas.{Passed, passed_none, passed_then, at_split, at_last_end, over, seeks_on, fewer_on, returns_to_come, choices_to_come}
+use Rattle.fancy_machine.specs.Choices.{IsTaken, saved_ways}
+use Rattle.fancy_machine.specs.Frames.{Frame, Held, Saved, Spot, saved}
+use Rattle.fancy_machine.specs.Machine.{finish, left, at_instr, at_place}
+use Rattle.fancy_machine.proofs.PassLemmas.{Passed, passed_none, passed_then, at_byte, at_split, at_last_end, over, seeks_on, fewer_on, returns_to_come, choices_to_come}
 
 -- so many marks and returns later something is left, if o is known
 abbrev Left : Option (List Raw) → ℕ → ℕ → List Raw → Type 0
@@ -31,7 +31,33 @@ left_once o m r w = λ a b i.
     let p : a.0 ≡ b.0 = same_Some _ _ (sym a.1 ∙ b.1) in
     (p i, is_prop→PathP (λ j. o ≡ Some (p j)) (λ j. hlevel props) a.1 b.1 i, is_prop→PathP (λ j. Passed m r w (p j)) (λ j. hlevel props) a.2 b.2 i)
 
-module _ (a : Attempt) (c : ToldChoice) (h : Held) (is : IsToldChoice (instrs_of a.code.now) a.code.now.meaning h.now.at c) (p : Passage) (taken : IsTaken a c h.now.state.place p)
+-- ways are saved at a place, whichever instruction the way there comes to
+saved_at : (ways : List ℕ) (q : ℕ) (x : Spot) (fs : List Frame) → saved_ways ways (at_instr q x) fs ≡ saved_ways ways x fs
+saved_at [] q x fs = refl
+saved_at (way ∷ ways) q x fs = saved_at ways q x (Saved (at_instr way x) ∷ fs)
+
+saved_more : (ways : List ℕ) (x : Spot) (fs : List Frame) → saved (saved_ways ways x fs) ≡ length ways + saved fs
+saved_more [] x fs = omega arith
+saved_more (way ∷ ways) x fs = omega (arith, saved_more ways x (Saved (at_instr way x) ∷ fs))
+
+module _ (cx : Context) (code : List Instruction) (deep : ℕ) where
+  -- choices are passed over, and ways of others saved
+  leads_to : (b m r q to : ℕ) (ways : List ℕ) → LeadsTo code cx.meaning b m r ways q to → (y : Spot) → y.at ≡ q → slice_get cx.haystack y.state.place ≡ Some b → (fs : List Frame) (w : List Raw)
+      → left (λ l. run cx l code deep) y fs ≡ Some w → Left (left (λ l. run cx l code deep) (at_instr to y) (saved_ways ways y fs)) (m + length ways) r w
+  leads_to b m r q to [] o y at here fs w known =
+      let past = over cx code deep b o.0 m r q to o.1 y at here fs w known in
+      (past.0, past.1, passed_then past.2 (passed_none past.0) refl (omega arith))
+  leads_to b m r q to (second ∷ ways) o y at here fs w known =
+      let before = over cx code deep b o.0 o.1 o.2 q o.3 o.4 y at here fs w known in
+      let met = at_split cx code deep (at_instr o.3 y) fs before.0 o.5 second before.1 o.6 in
+      let gs = Saved (at_instr second y) ∷ fs in
+      let after = leads_to b o.7 o.8 o.5 to ways o.9 (at_instr o.5 y) refl here gs met.0 met.1 in (
+        after.0,
+        ap (left (λ l. run cx l code deep) (at_instr to y)) (sym (saved_at ways o.5 y gs)) ∙ after.1,
+        passed_then (passed_then before.2 met.2 refl refl) after.2 (omega (arith, o.10)) (omega (arith, o.11)),
+      )
+
+module _ (a : Attempt) (c : ToldChoice) (h : Held) (is : IsToldChoice (instrs_of a.code.now) a.code.now.meaning h.now.at c)
     (best : Option State) (deep : ℕ) (goal : Option State) (total choices r : ℕ) (s : Seeks a deep goal total choices h best r) where
   abbrev cx : Context
   cx = attempt_context a
@@ -39,39 +65,25 @@ module _ (a : Attempt) (c : ToldChoice) (h : Held) (is : IsToldChoice (instrs_of
   abbrev code : List Instruction
   code = instrs_of a.code.now
 
-  -- what is left where the passage leads, so many marks and returns later
-  abbrev Led : ℕ → ℕ → Onward → Type 0
-  Led m t Ends = (0 < m) × Left (finish (code_in a deep) h.frames (Some [])) m t s.rest
-  Led m t (Goes to) = (0 < m) × Left (left (code_in a deep) (at_instr to h.now) h.frames) m t s.rest
-  Led m t (Splits first second) = Left (left (code_in a deep) (at_instr first h.now) (Saved (at_instr second h.now) ∷ h.frames)) (m + 1) t s.rest
+  -- what is left where a passage leads, so many marks and returns later
+  abbrev Led : ℕ → ℕ → List ℕ → Onward → Type 0
+  Led m t ways Ends = (ways ≡ []) × Left (finish (code_in a deep) h.frames (Some [])) m t s.rest
+  Led m t ways (Goes to) = Left (left (code_in a deep) (at_instr to h.now) (saved_ways ways h.now h.frames)) (m + length ways) t s.rest
+  Led m t ways (Reads to) = Left (left (code_in a deep) (at_place to (h.now.state.place + 1) h.now) (saved_ways ways h.now h.frames)) (m + length ways) t s.rest
 
-  split_over : (b m t first second : ℕ) → slice_get a.haystack.now h.now.state.place ≡ Some b → SplitsOver code cx.meaning b m t h.now.at first second → Led m t (Splits first second)
-  split_over b m t first second here o =
-      let before = over cx code deep b o.before o.marks_before o.returns_before h.now.at o.at o.leads h.now refl here h.frames s.rest s.known in
-      let met = at_split cx code deep (at_instr o.at h.now) h.frames before.0 o.way second before.1 o.splits in
-      let after = over cx code deep b o.after o.marks_after o.returns_after o.way first o.follows (at_instr o.way h.now) refl here (Saved (at_instr second h.now) ∷ h.frames) met.0 met.1 in
-      (after.0, after.1, passed_then (passed_then before.2 met.2 refl refl) after.2 (omega (arith, o.marks)) (omega (arith, o.returns)))
+  read_past : (b m t to : ℕ) (ways : List ℕ) → slice_get a.haystack.now h.now.state.place ≡ Some b → h.now.state.place < h.now.limit
+      → ((from : ℕ) × LeadsTo code cx.meaning b m t ways h.now.at from × ReadsByte code cx.meaning b from to) → Led m t ways (Reads to)
+  read_past b m t to ways here lt o =
+      let on = leads_to cx code deep b m t h.now.at o.0 ways o.1 h.now refl here h.frames s.rest s.known in
+      let read = at_byte cx code deep (at_instr o.0 h.now) (saved_ways ways h.now h.frames) on.0 b to on.1 o.2 here lt in
+      (read.0, read.1, passed_then on.2 read.2 (omega arith) (omega arith))
 
-  by_byte : (b m t : ℕ) (o : Onward) → slice_get a.haystack.now h.now.state.place ≡ Some b → Leads code cx.meaning b m t o h.now.at → Passes o m → Led m t o
-  by_byte b m t Ends here leads some = (some, at_last_end cx code deep m t h.now h.frames s.rest b s.known leads here)
-  by_byte b m t (Goes to) here leads some =
-      (some, ∥∥₁_elim leads (left_once _ m t s.rest) (λ o. over cx code deep b o.0 m t h.now.at to o.1 h.now refl here h.frames s.rest s.known))
-  by_byte b m t (Splits first second) here leads some = ∥∥₁_elim leads (left_once _ (m + 1) t s.rest) (split_over b m t first second here)
-
-  abbrev marks : ℕ
-  marks = p.price.marks
-
-  abbrev returns : ℕ
-  returns = p.price.returns
-
-  led : Led marks returns p.onward
-  led =
-      elim taken [
-        | inl by ↦ by_byte by.0 marks returns p.onward by.1 (is.leads by.0 p by.2 by.3) (is.passes by.0 p by.2 by.3)
-        | inr own ↦
-            let met = at_split cx code deep h.now h.frames s.rest c.first c.second s.known is.splits in
-            subst (Led marks returns) (sym own.0) (met.0, met.1, passed_then met.2 (passed_none met.0) (omega (arith, own.1)) (omega (arith, own.2)))
-      ]
+  by_byte : (b m t : ℕ) (ways : List ℕ) (o : Onward) → slice_get a.haystack.now h.now.state.place ≡ Some b → h.now.state.place < h.now.limit → Leads code cx.meaning b m t ways o h.now.at
+      → Led m t ways o
+  by_byte b m t ways Ends here lt leads = (leads.0, at_last_end cx code deep m t h.now h.frames s.rest b s.known leads.1 here)
+  by_byte b m t ways (Goes to) here lt leads =
+      ∥∥₁_elim leads (left_once _ (m + length ways) t s.rest) (λ o. leads_to cx code deep b m t h.now.at to ways o h.now refl here h.frames s.rest s.known)
+  by_byte b m t ways (Reads to) here lt leads = ∥∥₁_elim leads (left_once _ (m + length ways) t s.rest) (read_past b m t to ways here lt)
 
   -- so many marks and returns later something else is left
   module _ (m t : ℕ) (rest : List Raw) (passed : Passed m t s.rest rest) (some : 0 < m) (u : ℕ) (count : u ≡ t) where
@@ -92,37 +104,77 @@ module _ (a : Attempt) (c : ToldChoice) (h : Held) (is : IsToldChoice (instrs_of
       fewer_on a.options.longest (accepts a) goal total choices best r _ h.frames s m t _ new.frames rest known passed some,
     )
 
-  pub all_die : p.onward ≡ Ends → (new : Held) → new.frames ≡ h.frames → (t : ℕ) → t ≡ returns → Advanced a deep goal total choices (size_ahead a deep h) Dead new best (r + t)
-  all_die ends new frames t count =
-      let l = subst (Led marks returns) ends led in
+  -- the choice by itself
+  own : Led 0 0 (c.second ∷ []) (Goes c.first)
+  own = at_split cx code deep h.now h.frames s.rest c.first c.second s.known is.splits
+
+  pub saves_one : (new : Held) → new.now ≡ at_instr c.first h.now → new.frames ≡ Saved (at_instr c.second h.now) ∷ h.frames → (u : ℕ) → u ≡ 0
+      → Advanced a deep goal total choices (size_ahead a deep h) On new best (r + u)
+  saves_one new now frames u count =
       let saves = ap saved frames in
-      dies_off marks returns l.1.0 l.1.2 l.0 t count new (ap (λ (fs : List Frame). finish (code_in a deep) fs (Some [])) frames ∙ l.1.1) (omega (arith, saves))
+      goes_on 1 0 own.0 own.2 (omega arith) u count new (ap₂ (left (code_in a deep)) now frames ∙ own.1) (omega (arith, saves))
 
-  pub goes_past : (to : ℕ) → p.onward ≡ Goes to → (new : Held) → new.now ≡ at_instr to h.now → new.frames ≡ h.frames → (t : ℕ) → t ≡ returns → Advanced a deep goal total choices (size_ahead a deep h) On new best (r + t)
-  goes_past to goes new now frames t count =
-      let l = subst (Led marks returns) goes led in
-      let saves = ap saved frames in
-      goes_on marks returns l.1.0 l.1.2 l.0 t count new (ap₂ (left (code_in a deep)) now frames ∙ l.1.1) (omega (arith, saves))
+  pub one_ahead : saved h.frames + 1 ≤ choices
+  one_ahead =
+      let all = choices_to_come a.options.longest (accepts a) goal total choices best r _ h.frames s 1 0 _ h.frames own.0 own.1 own.2 in
+      omega (arith, all)
 
-  module _ (first second : ℕ) (splits : p.onward ≡ Splits first second) where
-    abbrev one : Led marks returns (Splits first second)
-    one = subst (Led marks returns) splits led
+  -- where a passage leads
+  module _ (p : Passage) (taken : IsTaken a c h.now p) where
+    abbrev marks : ℕ
+    marks = p.price.marks
 
-    pub saves_one : (new : Held) → new.now ≡ at_instr first h.now → new.frames ≡ Saved (at_instr second h.now) ∷ h.frames → (t : ℕ) → t ≡ returns
-        → Advanced a deep goal total choices (size_ahead a deep h) On new best (r + t)
-    saves_one new now frames t count =
+    abbrev returns : ℕ
+    returns = p.price.returns
+
+    abbrev ways : List ℕ
+    ways = ways_of p
+
+    led : Led marks returns ways p.onward
+    led = by_byte taken.0 marks returns ways p.onward taken.1 taken.4 (is.leads taken.0 p taken.2 taken.3).1
+
+    some : Passes marks ways
+    some = (is.leads taken.0 p taken.2 taken.3).0
+
+    pub all_die : p.onward ≡ Ends → (new : Held) → new.frames ≡ h.frames → (u : ℕ) → u ≡ returns → Advanced a deep goal total choices (size_ahead a deep h) Dead new best (r + u)
+    all_die ends new frames u count =
+        let l = subst (Led marks returns ways) ends led in
+        let none = ap length l.0 in
         let saves = ap saved frames in
-        goes_on (marks + 1) returns one.0 one.2 (omega arith) t count new (ap₂ (left (code_in a deep)) now frames ∙ one.1) (omega (arith, saves))
+        dies_off marks returns l.1.0 l.1.2 (omega (arith, some, none)) u count new (ap (λ (fs : List Frame). finish (code_in a deep) fs (Some [])) frames ∙ l.1.1) (omega (arith, saves))
 
-    pub choices_ahead : saved h.frames + 1 ≤ choices
-    choices_ahead =
-        let all = choices_to_come a.options.longest (accepts a) goal total choices best r _ h.frames s (marks + 1) returns _ h.frames one.0 one.1 one.2 in
-        omega (arith, all)
+    pub goes_past : (to : ℕ) → p.onward ≡ Goes to → (new : Held) → new.now ≡ at_instr to h.now → new.frames ≡ saved_ways ways h.now h.frames → (u : ℕ) → u ≡ returns
+        → Advanced a deep goal total choices (size_ahead a deep h) On new best (r + u)
+    goes_past to goes new now frames u count =
+        let l = subst (Led marks returns ways) goes led in
+        let saves = ap saved frames in
+        goes_on (marks + length ways) returns l.0 l.2 some u count new (ap₂ (left (code_in a deep)) now frames ∙ l.1) (omega (arith, saves, saved_more ways h.now h.frames))
 
-  pub returns_ahead : r + returns ≤ total
-  returns_ahead = by p.onward refl where
-    by : (o : Onward) → p.onward ≡ o → r + returns ≤ total
-    by Ends e = let l = subst (Led marks returns) e led in returns_to_come a.options.longest (accepts a) goal total choices best r _ h.frames s marks returns _ h.frames l.1.0 l.1.1 l.1.2
-    by (Goes to) e = let l = subst (Led marks returns) e led in returns_to_come a.options.longest (accepts a) goal total choices best r _ h.frames s marks returns _ h.frames l.1.0 l.1.1 l.1.2
-    by (Splits first second) e =
-        let l = subst (Led marks returns) e led in returns_to_come a.options.longest (accepts a) goal total choices best r _ h.frames s (marks + 1) returns _ (Saved (at_instr second h.now) ∷ h.frames) l.0 l.1 l.2
+    pub reads_past : (to : ℕ) → p.onward ≡ Reads to → (new : Held) → new.now ≡ at_place to (h.now.state.place + 1) h.now → new.frames ≡ saved_ways ways h.now h.frames → (u : ℕ) → u ≡ returns
+        → Advanced a deep goal total choices (size_ahead a deep h) On new best (r + u)
+    reads_past to reads new now frames u count =
+        let l = subst (Led marks returns ways) reads led in
+        let saves = ap saved frames in
+        goes_on (marks + length ways) returns l.0 l.2 some u count new (ap₂ (left (code_in a deep)) now frames ∙ l.1) (omega (arith, saves, saved_more ways h.now h.frames))
+
+    -- no attempt takes fewer returns, or has fewer choices
+    pub returns_ahead : r + returns ≤ total
+    returns_ahead = by p.onward led where
+      by : (o : Onward) → Led marks returns ways o → r + returns ≤ total
+      by Ends l = returns_to_come a.options.longest (accepts a) goal total choices best r _ h.frames s marks returns _ h.frames l.1.0 l.1.1 l.1.2
+      by (Goes to) l = returns_to_come a.options.longest (accepts a) goal total choices best r _ h.frames s (marks + length ways) returns _ (saved_ways ways h.now h.frames) l.0 l.1 l.2
+      by (Reads to) l = returns_to_come a.options.longest (accepts a) goal total choices best r _ h.frames s (marks + length ways) returns _ (saved_ways ways h.now h.frames) l.0 l.1 l.2
+
+    pub choices_ahead : saved h.frames + length ways ≤ choices
+    choices_ahead = by p.onward led where
+      by : (o : Onward) → Led marks returns ways o → saved h.frames + length ways ≤ choices
+      by Ends l =
+          let none = ap length l.0 in
+          let all = choices_to_come a.options.longest (accepts a) goal total choices best r _ h.frames s marks returns _ h.frames l.1.0 l.1.1 l.1.2 in
+          omega (arith, all, none)
+      by (Goes to) l =
+          let all = choices_to_come a.options.longest (accepts a) goal total choices best r _ h.frames s (marks + length ways) returns _ h.frames l.0 l.1 l.2 in
+          omega (arith, all)
+      by (Reads to) l =
+          let all = choices_to_come a.options.longest (accepts a) goal total choices best r _ h.frames s (marks + length ways) returns _ h.frames l.0 l.1 l.2 in
+          omega (arith, all)

@@ -1,14 +1,14 @@
 //! The instructions that save a branch or open a region, and choices of which bytes tell where they lead.
 
-ghost use Rattle.std.specs.Prelude.{◌≤◌, Option, length};
+ghost use Rattle.std.specs.Prelude.{◌≤◌, ◌<◌, ◌+◌, ◌^◌, IfSome, Option, length};
 ghost use Rattle.fancy_code.specs.Code.{instrs_of};
 ghost use Rattle.fancy_meaning.specs.Context.{State};
 ghost use Rattle.fancy_input.specs.Work.{returns_of};
-ghost use Rattle.fancy_prices.specs.Splits.{IsToldChoice};
-ghost use Rattle.fancy_machine.specs.Choices.{IsTaken};
+ghost use Rattle.fancy_prices.specs.Splits.{IsToldChoice, ways_in};
+ghost use Rattle.fancy_machine.specs.Choices.{IsTaken, saved_ways};
 ghost use Rattle.fancy_machine.specs.declared.attempt.Attempt.{Attempt as AttemptIs};
 ghost use Rattle.fancy_machine.specs.Machine.{within_at};
-ghost use Rattle.fancy_machine.specs.Moves.{GoesOn};
+ghost use Rattle.fancy_machine.specs.Moves.{GoesOn, SavesBranches};
 ghost use Rattle.fancy_machine.specs.Parts.{CountsGoing, FollowsIfOk, FollowsInMemory, WentOn};
 
 use crate::attempt::Attempt;
@@ -18,8 +18,7 @@ use fancy_code::code::Instr;
 use fancy_code::step::Next;
 use fancy_input::refusal::SearchRefusal;
 use fancy_input::work::Work;
-use fancy_prices::choices::{Onward, Passage, ToldChoice};
-use fancy_prices::price::Price;
+use fancy_prices::choices::{Onward, Passage, SavedWays, ToldChoice};
 
 /// Saves the second of two ways, and goes on by the first.
 pub(crate) fn split(trail: &mut Trail, first: usize, second: usize) -> Result<Next, SearchRefusal>
@@ -94,28 +93,39 @@ pub(crate) fn begin_denial(
     Ok(Next::On)
 }
 
-/// The passage of the byte that stands at a place, where so many branches may be saved: else it is the choice by itself.
-fn passage_at(choice: &ToldChoice, attempt: &Attempt, trail: &Trail) -> Passage
-    ensures { IsTaken attempt.now choice.now trail.now.now.state.place result }
+/// The passage of the byte that stands at the place, where text may be consumed and so many branches may be saved.
+fn passage_at<'a>(choice: &'a ToldChoice, attempt: &Attempt, trail: &Trail) -> Option<&'a Passage>
+    ensures taken { IfSome result (λ p. IsTaken attempt.now choice.now trail.now.now p.now) }
+    ensures fits { IfSome result (λ _. trail.now.now.state.place + 1 < 2 ^ 64) }
 {
-    let own = Passage {
-        price: Price {
-            marks: 0,
-            returns: 0,
-        },
-        onward: Onward::Splits(choice.first, choice.second),
-    };
-    let Some(byte) = attempt.haystack.get(trail.place()) else {
-        return own;
-    };
-    match choice.passage(*byte) {
-        Some(passage) if trail.has_room_for(passage.price.marks as usize + 1) => *passage,
-        _ => own,
+    let place = trail.place();
+    if trail.limit() <= place || attempt.haystack.len() <= place {
+        return None;
+    }
+    match choice.passage(attempt.haystack[place]) {
+        Some(passage) if trail.has_room_for(passage.price.marks as usize + 2) => Some(passage),
+        _ => None,
+    }
+}
+
+/// Saves the branches of a passage.
+#[inline(always)]
+fn save_ways(trail: &mut Trail, saved: SavedWays) -> Result<(), SearchRefusal>
+    ensures { SavesBranches result (length (ways_in saved))
+        (saved_ways (ways_in saved) trail.old.now trail.old.frames) trail.old trail.new }
+{
+    match saved {
+        SavedWays::Nothing => Ok(()),
+        SavedWays::One(way) => trail.save(Kind::Branch, way),
+        SavedWays::Two(outer, inner) => {
+            trail.save(Kind::Branch, outer)?;
+            trail.save(Kind::Branch, inner)
+        }
     }
 }
 
 /// Goes on at a choice, where the byte leads that stands there. Choices whose first ways die are passed over together, and their
-/// returns are counted.
+/// returns are counted; of others the second ways are saved.
 pub(crate) fn choose(
     attempt: &Attempt,
     choice: &ToldChoice,
@@ -131,18 +141,23 @@ pub(crate) fn choose(
     ensures counts { CountsGoing limit attempt.now.options.step_limit result work.old work.new }
 {
     work.count_step_within();
-    let passage = passage_at(choice, attempt, trail);
-    let returns = passage.price.returns as usize;
-    attempt.count_returns(returns, limit, work)?;
+    let Some(passage) = passage_at(choice, attempt, trail) else {
+        trail.save(Kind::Branch, choice.second)?;
+        trail.go(choice.first);
+        return Ok(Next::On);
+    };
+    attempt.count_returns(passage.price.returns as usize, limit, work)?;
     match passage.onward {
         Onward::Ends => Ok(Next::Dead),
         Onward::Goes(to) => {
+            save_ways(trail, passage.saved)?;
             trail.go(to);
             Ok(Next::On)
         }
-        Onward::Splits(first, second) => {
-            trail.save(Kind::Branch, second)?;
-            trail.go(first);
+        Onward::Reads(to) => {
+            let past = trail.place() + 1;
+            save_ways(trail, passage.saved)?;
+            trail.go_to(to, past);
             Ok(Next::On)
         }
     }

@@ -1,101 +1,88 @@
 -- Where bytes lead from choices: one choice more before a passage.
-use Rattle.std.proofs.Common.{◌≡◌, ℕ, zero, suc, ◌+◌, List, Option, Some, None, Result, Ok, Err, IfOk, IfSome, refl, arith}
+use Rattle.std.proofs.Common.{◌≡◌, ◌≢◌, ℕ, zero, suc, ◌+◌, List, [], ◌∷◌, length, Option, Some, None, Result, Ok, Err, IfOk, IfSome, refl, sym, ap, subst, arith}
 use Rattle.std.specs.Prelude.{slice_get}
 use Rattle.std.proofs.Math.Logic.{∥∥₁_map}
 use Rattle.fancy_tree.specs.declared.tree.Meaning.{Meaning}
 use Rattle.fancy_code.specs.Instructions.{Instruction, Split}
 use Rattle.fancy_code.specs.Run.{instr_at}
 use Rattle.fancy_prices.specs.declared.choices.Onward.{Onward}
-use Rattle.fancy_prices.specs.declared.choices.Onward.TheVariants.{Ends, Goes, Splits}
+use Rattle.fancy_prices.specs.declared.choices.Onward.TheVariants.{Ends, Goes, Reads}
 use Rattle.fancy_prices.specs.declared.choices.Passage.{Passage}
-use Rattle.fancy_prices.specs.Prices.{Dies}
-use Rattle.fancy_prices.specs.Splits.{Leads, LeadsBy, Passes, PassesOver, byte_alone}
+use Rattle.fancy_prices.specs.declared.choices.ToldChoice.{ToldChoice}
+use Rattle.fancy_prices.specs.declared.price.Price.{Price}
+use Rattle.fancy_prices.specs.Prices.{Dies, IsNothing}
+use Rattle.fancy_prices.specs.Splits.{IsOwn, IsPassageAt, Leads, LeadsBy, LeadsTo, Passes, PassesOver, ReadsByte, byte_alone, ways_of}
 use Rattle.fancy_prices.proofs.DyingWays.{dies_split}
+use Rattle.fancy_prices.proofs.PriceForms.{same_price}
 
 module _ (code : List Instruction) (meaning : Meaning) (b : ℕ) where
-  -- no choice is passed over
-  pub leads_here : (q : ℕ) → Leads code meaning b 0 0 (Goes q) q
-  leads_here q = ∣ (zero, (refl, refl, refl)) ∣₁
+  abbrev LeadsAs : Price → List ℕ → Onward → ℕ → Type 0
+  LeadsAs p ways o q = Leads code meaning b p.marks p.returns ways o q
+
+  -- the same passage, from its parts
+  pub leads_as : (p : Passage) (price : Price) (ways : List ℕ) (o : Onward) (q : ℕ) → p.price ≡ price → p.onward ≡ o → ways_of p ≡ ways → LeadsAs price ways o q → LeadsAs p.price (ways_of p) p.onward q
+  leads_as p price ways o q prices onward saves leads =
+      subst (λ (c : Price). LeadsAs c (ways_of p) p.onward q) (sym prices)
+      (subst (λ (ws : List ℕ). LeadsAs price ws p.onward q) (sym saves) (subst (λ (n : Onward). LeadsAs price ways n q) (sym onward) leads))
+
+  -- no choice is passed over, and no item is read
+  pub leads_here : (p : Price) (q : ℕ) → IsNothing p → LeadsAs p [] (Goes q) q
+  leads_here p q none = same_price (λ (m r : ℕ). Leads code meaning b m r [] (Goes q) q) p 0 0 none.0 none.1 ∣ (zero, (refl, refl, refl)) ∣₁
+
+  -- the item is read
+  pub leads_read : (p : Price) (q to : ℕ) → IsNothing p → ReadsByte code meaning b q to → LeadsAs p [] (Reads to) q
+  leads_read p q to none reads = same_price (λ (m r : ℕ). Leads code meaning b m r [] (Reads to) q) p 0 0 none.0 none.1 ∣ (q, (zero, (refl, refl, refl)), reads) ∣₁
+
+  -- all ways die
+  pub leads_nowhere : (p : Price) (q : ℕ) → Dies code meaning (byte_alone b) p.marks p.returns q → LeadsAs p [] Ends q
+  leads_nowhere p q dies = (refl, dies)
 
   module _ (at first second : ℕ) (is : instr_at code at ≡ Split first second) where
-    -- a choice by itself
-    pub leads_own : Leads code meaning b 0 0 (Splits first second) at
-    leads_own = ∣ record {
-      before = 0;
-      at = at;
-      way = first;
-      after = 0;
-      marks_before = 0;
-      returns_before = 0;
-      marks_after = 0;
-      returns_after = 0;
-      leads = (refl, refl, refl);
-      splits = is;
-      follows = (refl, refl, refl);
-      marks = refl;
-      returns = refl;
-    } ∣₁
+    -- its second way is saved
+    saves : (m r : ℕ) (ways : List ℕ) (to : ℕ) → LeadsTo code meaning b m r ways first to → LeadsTo code meaning b m r (second ∷ ways) at to
+    saves m r ways to leads = (zero, 0, 0, at, (refl, refl, refl), first, is, m, r, leads, omega arith, omega arith)
 
-    -- its first way passes over choices
-    pub leads_by_first : (m r to : ℕ) → Leads code meaning b m r (Goes to) first → Leads code meaning b m r (Splits to second) at
-    leads_by_first m r to leads =
-        ∥∥₁_map leads (λ p. record {
-          before = 0;
-          at = at;
-          way = first;
-          after = p.0;
-          marks_before = 0;
-          returns_before = 0;
-          marks_after = m;
-          returns_after = r;
-          leads = (refl, refl, refl);
-          splits = is;
-          follows = p.1;
-          marks = omega arith;
-          returns = omega arith;
-        })
+    -- a choice by itself
+    pub leads_own : (c : ToldChoice) (p : Passage) → c.first ≡ first → c.second ≡ second → IsOwn c p → LeadsAs p.price (ways_of p) p.onward at
+    leads_own c p one other own =
+        subst (λ (ws : List ℕ). LeadsAs p.price ws p.onward at) (sym own.1)
+        (subst (λ (q : ℕ). LeadsAs p.price (q ∷ []) p.onward at) (sym other)
+        (subst (λ (n : Onward). LeadsAs p.price (second ∷ []) n at) (sym own.0)
+        (subst (λ (q : ℕ). LeadsAs p.price (second ∷ []) (Goes q) at) (sym one)
+        (same_price (λ (m r : ℕ). Leads code meaning b m r (second ∷ []) (Goes first) at) p.price 0 0 own.2 own.3
+        ∣ saves 0 0 [] first (zero, (refl, refl, refl)) ∣₁))))
+
+    -- its second way is saved, and the first one leads on
+    pub leads_by_first : (m r : ℕ) (ways : List ℕ) (o : Onward) → o ≢ Ends → Leads code meaning b m r ways o first → Leads code meaning b m r (second ∷ ways) o at
+    leads_by_first m r ways Ends on leads = absurd (on refl)
+    leads_by_first m r ways (Goes to) on leads = ∥∥₁_map leads (saves m r ways to)
+    leads_by_first m r ways (Reads to) on leads = ∥∥₁_map leads (λ p. (p.0, saves m r ways p.0 p.1, p.2))
 
     -- its first way dies, and it is passed over
     module _ (i j : ℕ) (dies : Dies code meaning (byte_alone b) i j first) where
       one_more : (n k l to : ℕ) → PassesOver code meaning b n k l second to → PassesOver code meaning b (suc n) (suc (i + k)) (j + suc l) at to
       one_more n k l to p = (first, second, is, i, j, dies, k, l, p, refl, refl)
 
-      pub leads_over : (k l : ℕ) (o : Onward) → Leads code meaning b k l o second → Leads code meaning b (suc (i + k)) (j + suc l) o at
-      leads_over k l Ends leads = dies_split code meaning (byte_alone b) i j k l at first second is dies leads
-      leads_over k l (Goes to) leads = ∥∥₁_map leads (λ p. (suc p.0, one_more p.0 k l to p.1))
-      leads_over k l (Splits to other) leads =
-          ∥∥₁_map leads (λ p. record {
-            before = suc p.before;
-            at = p.at;
-            way = p.way;
-            after = p.after;
-            marks_before = suc (i + p.marks_before);
-            returns_before = j + suc p.returns_before;
-            marks_after = p.marks_after;
-            returns_after = p.returns_after;
-            leads = one_more p.before p.marks_before p.returns_before p.at p.leads;
-            splits = p.splits;
-            follows = p.follows;
-            marks = omega (arith, p.marks);
-            returns = omega (arith, p.returns);
-          })
+      over_one : (ways : List ℕ) (k l to : ℕ) → LeadsTo code meaning b k l ways second to → LeadsTo code meaning b (suc (i + k)) (j + suc l) ways at to
+      over_one [] k l to t = (suc t.0, one_more t.0 k l to t.1)
+      over_one (way ∷ ways) k l to t =
+          (suc t.0, suc (i + t.1), j + suc t.2, t.3, one_more t.0 t.1 t.2 t.3 t.4, t.5, t.6, t.7, t.8, t.9, omega (arith, t.10), omega (arith, t.11))
 
--- more choices than one are passed over
-pub passes_more : (o : Onward) (m k : ℕ) → m ≡ suc k → Passes o m
-passes_more Ends m k e = omega (arith, e)
-passes_more (Goes to) m k e = omega (arith, e)
-passes_more (Splits first second) m k e = tt
+      pub leads_over : (k l : ℕ) (ways : List ℕ) (o : Onward) → Leads code meaning b k l ways o second → Leads code meaning b (suc (i + k)) (j + suc l) ways o at
+      leads_over k l ways Ends leads = (leads.0, dies_split code meaning (byte_alone b) i j k l at first second is dies leads.1)
+      leads_over k l ways (Goes to) leads = ∥∥₁_map leads (over_one ways k l to)
+      leads_over k l ways (Reads to) leads = ∥∥₁_map leads (λ p. (p.0, over_one ways k l p.0 p.1, p.2))
 
 module _ (code : List Instruction) (meaning : Meaning) (b : ℕ) where
   -- what is noted stays so where the passages do
   pub leads_kept : (old new : List Passage) (q : ℕ) (o : Option ℕ) → ((k : ℕ) (p : Passage) → slice_get old k ≡ Some p → slice_get new k ≡ Some p) → LeadsBy code meaning old q b o → LeadsBy code meaning new q b o
   leads_kept old new q None kept h = tt
-  leads_kept old new q (Some k) kept h = (h.0, kept k h.0 h.1, h.2, h.3)
+  leads_kept old new q (Some k) kept h = (h.0, kept k h.0 h.1, h.2)
 
   -- the number of a passage
-  pub leads_new : {E : Type 0} (first second : ℕ) (passages : List Passage) (p : Passage) (r : Result (Option ℕ) E) → IfOk r (λ o. IfSome o (λ k. slice_get passages k ≡ Some p)) → Passes p.onward p.price.marks
-      → ((at : ℕ) → instr_at code at ≡ Split first second → Leads code meaning b p.price.marks p.price.returns p.onward at)
+  pub leads_new : {E : Type 0} (first second : ℕ) (passages : List Passage) (p : Passage) (r : Result (Option ℕ) E) → IfOk r (λ o. IfSome o (λ k. slice_get passages k ≡ Some p))
+      → ((at : ℕ) → instr_at code at ≡ Split first second → IsPassageAt code meaning b at p)
       → IfOk r (λ o. (at : ℕ) → instr_at code at ≡ Split first second → LeadsBy code meaning passages at b o)
-  leads_new first second passages p (Ok None) h passes leads = λ at is. tt
-  leads_new first second passages p (Ok (Some k)) h passes leads = λ at is. (p, h, passes, leads at is)
-  leads_new first second passages p (Err e) h passes leads = tt
+  leads_new first second passages p (Ok None) h leads = λ at is. tt
+  leads_new first second passages p (Ok (Some k)) h leads = λ at is. (p, h, leads at is)
+  leads_new first second passages p (Err e) h leads = tt

@@ -49,13 +49,13 @@ module _ (code : List Instruction) (meaning : Meaning) (q next b : ℕ) where
         onward_on limit (run x limit code n) next s v (past_item x test s.place) (s.place + 1)
         (past_alone x test s.place b (ap (λ (m : Meaning). unit_in m x.haystack s.place) meant ∙ alone x.haystack s.place stands) passes) (omega (arith, within))
 
-  reads_character : (c : ℕ) → instr_at code q ≡ Character c next → IsAlone meaning b → (b == c) ≡ true → ReadsByte code meaning b q next
+  pub reads_character : (c : ℕ) → instr_at code q ≡ Character c next → IsAlone meaning b → (b == c) ≡ true → ReadsByte code meaning b q next
   reads_character c is alone passes = reads_by (Character c next) is (reads_item (λ d. d == c) alone passes)
 
-  reads_member : (edges : List ℕ) → instr_at code q ≡ Member edges next → IsAlone meaning b → has edges b ≡ true → ReadsByte code meaning b q next
+  pub reads_member : (edges : List ℕ) → instr_at code q ≡ Member edges next → IsAlone meaning b → has edges b ≡ true → ReadsByte code meaning b q next
   reads_member edges is alone passes = reads_by (Member edges next) is (reads_item (has edges) alone passes)
 
-  reads_raw_byte : instr_at code q ≡ RawByte b next → ReadsByte code meaning b q next
+  pub reads_raw_byte : instr_at code q ≡ RawByte b next → ReadsByte code meaning b q next
   reads_raw_byte is =
       reads_by (RawByte b next) is
       (λ x limit n s v meant stands within.

@@ -13,7 +13,7 @@ use Rattle.fancy_prices.specs.declared.splits.Splits.{Splits}
 use Rattle.fancy_prices.specs.declared.splits.ToldPart.{ToldPart}
 use Rattle.fancy_prices.specs.declared.splits.ToldPart.TheVariants.{Loop, Choice, Atom}
 use Rattle.fancy_prices.specs.declared.prices.Prices.{Prices}
-use Rattle.fancy_prices.specs.Splits.{AreSplits, IsTold, Leads, Passes}
+use Rattle.fancy_prices.specs.Splits.{AreSplits, IsTold, Leads}
 use Rattle.fancy_prices.specs.Prices.{Costs, MissesIn}
 use Rattle.fancy_prices.specs.Told.{ArePrices}
 
@@ -40,19 +40,14 @@ costs_once : (m r : ℕ) (o : Option (List Raw)) → IsProp (Costs m r o)
 costs_once m r None = hlevel props
 costs_once m r (Some w) = misses_once m r w
 
-leads_once : (code : List Instruction) (meaning : Meaning) (b m r : ℕ) (o : Onward) (q : ℕ) → IsProp (Leads code meaning b m r o q)
-leads_once code meaning b m r o.Ends q = hlevel (props, costs_once)
-leads_once code meaning b m r (o.Goes to) q = hlevel props
-leads_once code meaning b m r (o.Splits first second) q = hlevel props
-
-passes_once : (o : Onward) (m : ℕ) → IsProp (Passes o m)
-passes_once o.Ends m = hlevel props
-passes_once (o.Goes to) m = hlevel props
-passes_once (o.Splits first second) m = hlevel props
+leads_once : (code : List Instruction) (meaning : Meaning) (b m r : ℕ) (ways : List ℕ) (o : Onward) (q : ℕ) → IsProp (Leads code meaning b m r ways o q)
+leads_once code meaning b m r ways o.Ends q = hlevel (props, costs_once)
+leads_once code meaning b m r ways (o.Goes to) q = hlevel props
+leads_once code meaning b m r ways (o.Reads to) q = hlevel props
 
 told_once : (code : List Instruction) (meaning : Meaning) (at : ℕ) (l : ToldPart) → IsProp (IsTold code meaning at l)
 told_once code meaning at (Loop l) = hlevel (props, costs_once)
-told_once code meaning at (Choice c) = hlevel (props, leads_once, passes_once)
+told_once code meaning at (Choice c) = hlevel (props, leads_once)
 told_once code meaning at (Atom a) = hlevel props
 
 pub splits_once : (l : Splits) (code : Code) → IsProp (AreSplits l code)

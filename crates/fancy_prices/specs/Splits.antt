@@ -12,6 +12,8 @@ use Rattle.fancy_prices.specs.declared.atoms.ToldAtom.{ToldAtom}
 use Rattle.fancy_prices.specs.declared.choices.Onward.{Onward}
 use Rattle.fancy_prices.specs.declared.choices.Onward.TheVariants as o
 use Rattle.fancy_prices.specs.declared.choices.Passage.{Passage}
+use Rattle.fancy_prices.specs.declared.choices.SavedWays.{SavedWays}
+use Rattle.fancy_prices.specs.declared.choices.SavedWays.TheVariants as w
 use Rattle.fancy_prices.specs.declared.choices.ToldChoice.{ToldChoice}
 use Rattle.fancy_prices.specs.declared.splits.ToldSplit.{ToldSplit}
 use Rattle.fancy_prices.specs.declared.splits.ToldPart.{ToldPart}
@@ -96,39 +98,44 @@ PassesOver code meaning b (suc n) m r q to =
     (first : ℕ) × (second : ℕ) × (instr_at code q ≡ Split first second) × (i : ℕ) × (j : ℕ) × Dies code meaning (byte_alone b) i j first
     × (k : ℕ) × (l : ℕ) × PassesOver code meaning b n k l second to × (m ≡ suc (i + k)) × (r ≡ j + suc l)
 
--- Where the byte b stands, choices are passed over from q on, as far as one more: its second way begins at `second`, and on its first way choices are
--- passed over as far as `first`. But for the mark of that one there are so many marks and returns.
-pub record SplitsOver (code : List Instruction) (meaning : Meaning) (b m r q first second : ℕ) : Type 0 where
-  pub before : ℕ
-  pub at : ℕ
-  pub way : ℕ
-  pub after : ℕ
-  pub marks_before : ℕ
-  pub returns_before : ℕ
-  pub marks_after : ℕ
-  pub returns_after : ℕ
-  pub leads : PassesOver code meaning b before marks_before returns_before q at
-  pub splits : instr_at code at ≡ Split way second
-  pub follows : PassesOver code meaning b after marks_after returns_after way first
-  pub marks : m ≡ marks_before + marks_after
-  pub returns : r ≡ returns_before + returns_after
+-- the ways that a passage saves, in that order
+abbrev pub ways_in : SavedWays → List ℕ
+ways_in w.Nothing = []
+ways_in (w.One way) = way ∷ []
+ways_in (w.Two outer inner) = outer ∷ inner ∷ []
+
+abbrev pub ways_of : Passage → List ℕ
+ways_of p = ways_in p.saved
+
+-- Where the byte b stands, the code comes from q to `to`: choices are passed over, and between them the second ways of others are saved, one after another. But
+-- for the marks of these there are so many marks and returns.
+abbrev pub LeadsTo : List Instruction → Meaning → ℕ → ℕ → ℕ → List ℕ → ℕ → ℕ → Type 0
+LeadsTo code meaning b m r [] q to = (n : ℕ) × PassesOver code meaning b n m r q to
+LeadsTo code meaning b m r (second ∷ ways) q to =
+    (n : ℕ) × (i : ℕ) × (j : ℕ) × (at : ℕ) × PassesOver code meaning b n i j q at × (way : ℕ) × (instr_at code at ≡ Split way second)
+    × (k : ℕ) × (l : ℕ) × LeadsTo code meaning b k l ways way to × (m ≡ i + k) × (r ≡ j + l)
 
 -- what a passage from q on does where the byte b stands
-abbrev pub Leads : List Instruction → Meaning → ℕ → ℕ → ℕ → Onward → ℕ → Type 0
-Leads code meaning b m r o.Ends q = Dies code meaning (byte_alone b) m r q
-Leads code meaning b m r (o.Goes to) q = ∥ ((n : ℕ) × PassesOver code meaning b n m r q to) ∥₁
-Leads code meaning b m r (o.Splits first second) q = ∥ SplitsOver code meaning b m r q first second ∥₁
+abbrev pub Leads : List Instruction → Meaning → ℕ → ℕ → ℕ → List ℕ → Onward → ℕ → Type 0
+Leads code meaning b m r ways o.Ends q = (ways ≡ []) × Dies code meaning (byte_alone b) m r q
+Leads code meaning b m r ways (o.Goes to) q = ∥ LeadsTo code meaning b m r ways q to ∥₁
+Leads code meaning b m r ways (o.Reads to) q = ∥ ((from : ℕ) × LeadsTo code meaning b m r ways q from × ReadsByte code meaning b from to) ∥₁
 
--- a passage that saves no way passes over a choice at least
-abbrev pub Passes : Onward → ℕ → Type 0
-Passes o.Ends m = 0 < m
-Passes (o.Goes to) m = 0 < m
-Passes (o.Splits first second) m = Unit {0}
+-- at least one choice is passed over, or a way of it saved
+abbrev pub Passes : ℕ → List ℕ → Type 0
+Passes m ways = 0 < m + length ways
+
+-- Where the byte b stands, the passage leads on from the choice at q.
+abbrev pub IsPassageAt : List Instruction → Meaning → ℕ → ℕ → Passage → Type 0
+IsPassageAt code meaning b q p = Passes p.price.marks (ways_of p) × Leads code meaning b p.price.marks p.price.returns (ways_of p) p.onward q
 
 -- The passage with the number, if there is one, is that of the byte b from q on.
 abbrev pub LeadsBy : List Instruction → Meaning → List Passage → ℕ → ℕ → Option ℕ → Type 0
-LeadsBy code meaning passages q b number =
-    IfSome number (λ k. (p : Passage) × (slice_get passages k ≡ Some p) × Passes p.onward p.price.marks × Leads code meaning b p.price.marks p.price.returns p.onward q)
+LeadsBy code meaning passages q b number = IfSome number (λ k. (p : Passage) × (slice_get passages k ≡ Some p) × IsPassageAt code meaning b q p)
+
+-- the passage is the choice by itself, over which nothing is passed
+abbrev pub IsOwn : ToldChoice → Passage → Type 0
+IsOwn c p = (p.onward ≡ o.Goes c.first) × (ways_of p ≡ c.second ∷ []) × (p.price.marks ≡ 0) × (p.price.returns ≡ 0)
 
 -- the passage is noted for the byte
 abbrev pub IsPassage : ToldChoice → ℕ → Passage → Type 0
@@ -137,8 +144,7 @@ IsPassage c b p = (k : ℕ) × (slice_index_or c.numbers b None ≡ Some k) × (
 -- At this instruction stands a choice. Each byte leads from it as is noted.
 pub record IsToldChoice (code : List Instruction) (meaning : Meaning) (at : ℕ) (c : ToldChoice) : Type 0 where
   pub splits : instr_at code at ≡ Split c.first c.second
-  pub leads : (b : ℕ) (p : Passage) → b < 256 → IsPassage c b p → Leads code meaning b p.price.marks p.price.returns p.onward at
-  pub passes : (b : ℕ) (p : Passage) → b < 256 → IsPassage c b p → Passes p.onward p.price.marks
+  pub leads : (b : ℕ) (p : Passage) → b < 256 → IsPassage c b p → IsPassageAt code meaning b at p
 
 -- At this instruction an atomic group begins. Its body is a loop, or reads each of these items and goes on at a loop.
 pub record IsToldAtom (code : List Instruction) (meaning : Meaning) (at : ℕ) (a : ToldAtom) : Type 0 where

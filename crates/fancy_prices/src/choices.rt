@@ -1,18 +1,18 @@
 //! Choices of code that are no loops: where the byte at a place leads from them.
 
-ghost use Rattle.std.specs.Prelude.{◌≡◌, ℕ, List, Some, IfOk, IfSome, slice_get};
+ghost use Rattle.std.specs.Prelude.{◌≡◌, ℕ, List, true, [], ◌∷◌, Some, IfOk, IfSome, slice_get};
 ghost use Rattle.fancy_tree.specs.declared.tree.Meaning.{Meaning as MeaningIs};
 ghost use Rattle.fancy_code.specs.Code.{instrs_of};
 ghost use Rattle.fancy_code.specs.Instructions.{Instruction, Split};
 ghost use Rattle.fancy_code.specs.Run.{instr_at};
 ghost use Rattle.fancy_prices.specs.declared.choices.Passage.{Passage as PassageIs};
-ghost use Rattle.fancy_prices.specs.Splits.{AreSplits, IsPassage, IsToldChoice, Leads, LeadsBy, Passes};
+ghost use Rattle.fancy_prices.specs.Splits.{AreSplits, IsOwn, IsPassage, IsPassageAt, IsToldChoice, Leads, LeadsBy, ReadsByte, ways_of};
 
 use crate::facts::Facts;
 use crate::free::price_of;
 use crate::price::Price;
-use crate::splits::{Splits, ToldPart};
-use fancy_code::code::{Code, Ways};
+use crate::splits::{Splits, ToldPart, is_alone};
+use fancy_code::code::{Code, Instr, Ways};
 use std::alloc::{AllocError, Global};
 
 /// How many instructions are followed one after another.
@@ -21,24 +21,70 @@ const DEPTH: usize = 48;
 /// The most passages of one choice that differ.
 const MOST: usize = 255;
 
-/// What follows the choices that are passed over.
+/// What follows the choices that a passage goes by.
 #[derive(Clone, Copy, PartialEq, Eq)]
 pub enum Onward {
     /// Nothing: all ways die.
     Ends,
     /// The code goes on at the instruction with this number.
     Goes(usize),
-    /// One more choice: the code goes on at the first instruction, and may come back to the second one.
-    Splits(usize, usize),
+    /// The byte is read as an item by itself, and the code goes on at the instruction with this number.
+    Reads(usize),
 }
 
-/// Where code goes on from a choice. It passes over choices whose first ways die, one after another.
+/// The ways that a passage saves: the second ways of choices, each by the number of the instruction that it begins at.
 #[derive(Clone, Copy, PartialEq, Eq)]
+pub enum SavedWays {
+    /// None.
+    Nothing,
+    /// One.
+    One(usize),
+    /// Two, in the order in which they are saved.
+    Two(usize, usize),
+}
+
+/// Where code goes on from a choice. It passes over choices whose first ways die, and saves the second ways of others.
+#[derive(Clone, Copy)]
 pub struct Passage {
     /// How many choices are passed over, and how many of them are taken back.
     pub price: Price,
+    /// The ways that are saved of others.
+    pub saved: SavedWays,
     /// What follows them.
     pub onward: Onward,
+}
+
+impl Passage {
+    /// Whether it is the same as another.
+    fn is_same(&self, other: &Passage) -> bool
+        ensures { result ≡ true → self.now ≡ other.now }
+    {
+        self.price == other.price && self.saved == other.saved && self.onward == other.onward
+    }
+
+    /// One that saves no way.
+    fn alone(price: Price, onward: Onward) -> Passage
+        ensures { (result.price ≡ price) × (result.onward ≡ onward) × (ways_of result ≡ []) }
+    {
+        Passage {
+            price,
+            saved: SavedWays::Nothing,
+            onward,
+        }
+    }
+
+    /// The same once a way was saved before, if no more than two are saved so.
+    fn behind(self, way: usize) -> Option<Passage>
+        ensures { IfSome result (λ p. (p.price ≡ self.price) × (p.onward ≡ self.onward)
+            × (ways_of p ≡ way ∷ ways_of self)) }
+    {
+        let saved = match self.saved {
+            SavedWays::Nothing => SavedWays::One(way),
+            SavedWays::One(inner) => SavedWays::Two(way, inner),
+            SavedWays::Two(_, _) => return None,
+        };
+        Some(Passage { saved, ..self })
+    }
 }
 
 /// A choice of code that is no loop of one item, and where each byte leads from it.
@@ -73,15 +119,39 @@ impl ToldChoice {
     fn passage_or_own(&self, byte: u8) -> Passage
         ensures { (code : List Instruction) (meaning : MeaningIs) (at : ℕ)
             → IsToldChoice code meaning at self.now
-            → Leads code meaning byte result.price.marks result.price.returns result.onward at }
+            → Leads code meaning byte result.price.marks result.price.returns
+            (ways_of result) result.onward at }
     {
         if let Some(passage) = self.passage(byte) {
             return *passage;
         }
+        self.own()
+    }
+
+    /// The choice by itself, as a passage.
+    pub fn own(&self) -> Passage
+        ensures { IsOwn self.now result }
+    {
         Passage {
             price: Price::nothing(),
-            onward: Onward::Splits(self.first, self.second),
+            saved: SavedWays::One(self.second),
+            onward: Onward::Goes(self.first),
         }
+    }
+}
+
+/// Where the code goes on from an instruction that reads the byte as an item by itself, if it does.
+fn past_byte(code: &Code, at: usize, here: u8) -> Option<usize>
+    ensures { IfSome result (ReadsByte (instrs_of code.now) code.now.meaning here at) }
+{
+    if at >= code.len() || !is_alone(code.meaning, here) {
+        return None;
+    }
+    match code.instr(at) {
+        Instr::Character(character, next) if *character as u32 == here as u32 => Some(*next),
+        Instr::Member(set, next) if code.set(*set).contains(here as u32) => Some(*next),
+        Instr::RawByte(byte, next) if *byte == here => Some(*next),
+        _ => None,
     }
 }
 
@@ -89,48 +159,37 @@ impl ToldChoice {
 fn passage_from(splits: &Splits, code: &Code, at: usize, here: u8) -> Passage
     requires { AreSplits splits.now code.now }
     ensures { Leads (instrs_of code.now) code.now.meaning here
-        result.price.marks result.price.returns result.onward at }
+        result.price.marks result.price.returns (ways_of result) result.onward at }
 {
     if let Some(ToldPart::Choice(choice)) = splits.part(at) {
         return choice.passage_or_own(here);
     }
     let facts = Facts { here, before: None };
-    match price_of(code, at, facts, DEPTH) {
-        Some(price) => Passage {
-            price,
-            onward: Onward::Ends,
-        },
-        None => Passage {
-            price: Price::nothing(),
-            onward: Onward::Goes(at),
-        },
+    if let Some(price) = price_of(code, at, facts, DEPTH) {
+        return Passage::alone(price, Onward::Ends);
+    }
+    match past_byte(code, at, here) {
+        Some(next) => Passage::alone(Price::nothing(), Onward::Reads(next)),
+        None => Passage::alone(Price::nothing(), Onward::Goes(at)),
     }
 }
 
-/// Where the byte leads from a choice of two ways, if it passes over something.
+/// Where the byte leads from a choice of two ways, if that is more than the choice by itself.
 fn passage_of(splits: &Splits, code: &Code, ways: Ways, here: u8) -> Option<Passage>
     requires { AreSplits splits.now code.now }
-    ensures passes { IfSome result (λ p. Passes p.onward p.price.marks) }
-    ensures leads { IfSome result (λ p. (at : ℕ)
+    ensures { IfSome result (λ p. (at : ℕ)
         → instr_at (instrs_of code.now) at ≡ Split ways.first ways.second
-        → Leads (instrs_of code.now) code.now.meaning here
-        p.price.marks p.price.returns p.onward at) }
+        → IsPassageAt (instrs_of code.now) code.now.meaning here at p) }
 {
     let first = passage_from(splits, code, ways.first, here);
     match first.onward {
         Onward::Ends => {
             let second = passage_from(splits, code, ways.second, here);
             let price = first.price.or(second.price)?;
-            Some(Passage {
-                price,
-                onward: second.onward,
-            })
+            Some(Passage { price, ..second })
         }
-        Onward::Goes(to) if to != ways.first => Some(Passage {
-            price: first.price,
-            onward: Onward::Splits(to, ways.second),
-        }),
-        _ => None,
+        Onward::Goes(to) if to == ways.first => None,
+        Onward::Goes(_) | Onward::Reads(_) => first.behind(ways.second),
     }
 }
 
@@ -142,7 +201,7 @@ fn number_of(passages: &mut Vec<Passage>, passage: Passage) -> Result<Option<u8>
         (λ o. IfSome o (λ k. slice_get passages.new.items k ≡ Some passage)) }
 {
     for number in 0..passages.len().min(MOST) {
-        if passages[number] == passage {
+        if passages[number].is_same(&passage) {
             return Ok(Some(number as u8));
         }
     }

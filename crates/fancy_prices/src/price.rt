@@ -4,7 +4,7 @@ ghost use Rattle.std.specs.Prelude.{◌≡◌, ◌+◌, ◌≤◌, suc, true, If
 ghost use Rattle.fancy_prices.specs.Prices.{IsNothing};
 
 /// The greatest number of choices, or of returns, that is told.
-const MOST: u8 = 32;
+const MOST: u8 = u8::MAX;
 
 /// What an attempt costs that finds nothing.
 #[derive(Clone, Copy, PartialEq, Eq)]

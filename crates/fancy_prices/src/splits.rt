@@ -107,7 +107,7 @@ fn only(byte: u8) -> ByteSet
 }
 
 /// Whether a byte can be an item by itself: an ASCII one, and any where items are bytes.
-fn is_alone(meaning: Meaning, byte: u8) -> bool
+pub(crate) fn is_alone(meaning: Meaning, byte: u8) -> bool
     ensures { result ≡ true → IsAlone meaning byte }
 {
     match meaning {
