@@ -16,7 +16,6 @@ use fancy_input::input::{Haystack, Input, Request};
 use fancy_input::regex_input::RegexInput;
 use fancy_input::work::Work;
 use fancy_search::asked::Asked;
-use fancy_search::cache::Cache;
 use fancy_search::options::Options;
 use fancy_search::program::Program;
 use fancy_tree::error::{Error, Result};
@@ -363,14 +362,13 @@ impl Regex {
             → AllowsAllSteps self.now.program request work.old
             → IsOutOfSteps result → ⊥ }
     {
-        let mut cache = Cache::new(self.allocator());
         let asked = Asked {
             haystack: haystack.as_bytes(),
             text: haystack.is_text(),
             request,
             continues: true,
         };
-        let found = self.program.search(&asked, &mut cache, work)?;
+        let found = self.program.find(&asked, work)?;
         let Some(found) = found else {
             return Ok(None);
         };

@@ -52,11 +52,11 @@ module _ (program : Program) (haystack : List ℕ) (cache : Cache) where
       subst (λ (k : Kept). IsKeptIn program haystack request k place cache) (sym is) ((λ base e. absurd (none-some base e)), (λ e. cc), (λ e. cc))
 
   -- a table is kept
-  pub keeps_table : (request : Request) (kept : KeptTable) (place : ℕ) → KeepsTable program haystack request kept place cache → IsKeptIn program haystack request (Runner (Some kept)) place cache
-  keeps_table request kept place is = ((λ b e. subst (λ (n : KeptTable). KeepsTable program haystack request n place cache) (same_Some kept b e) is), (λ e. cc), (λ e. cc))
+  pub keeps_table : (request : Request) (kept : KeptTable) (place : ℕ) → KeepsTable program haystack request kept place cache.runner → IsKeptIn program haystack request (Runner (Some kept)) place cache
+  keeps_table request kept place is = ((λ b e. subst (λ (n : KeptTable). KeepsTable program haystack request n place cache.runner) (same_Some kept b e) is), (λ e. cc), (λ e. cc))
 
   -- either is kept for the search after a match, if there is one
-  pub found_table : (request : Request) (kept : Option KeptTable) (m : Option Found) → IfSome kept (λ k. KeepsTable program haystack request k (place_kept m request) cache)
+  pub found_table : (request : Request) (kept : Option KeptTable) (m : Option Found) → IfSome kept (λ k. KeepsTable program haystack request k (place_kept m request) cache.runner)
       → IfSome m (λ f. IsKeptIn program haystack request (Runner kept) f.end cache)
   found_table request kept None is = tt
   found_table request None (Some f) is = ((λ base e. absurd (none-some base e)), (λ e. cc), (λ e. cc))

@@ -1,5 +1,6 @@
 -- What the runner answers is the answer of the search that a program asks for.
-use Rattle.std.proofs.Common.{◌≡◌, ◌≤◌, ◌<◌, ◌+◌, ◌∙◌, ◌&&◌, ◌++◌, [], zero, suc, not, if◌then◌else◌, is_some, ap, ap₂, true≢false, ℕ, Bool, false, List, Option, Some, None, IfSome, refl, sym, subst, slice_index, true}
+use Rattle.std.proofs.Common.{Result, IfOk, IfErr, ◌≡◌, ◌≤◌, ◌<◌, ◌+◌, ◌∙◌, ◌&&◌, ◌++◌, [], zero, suc, not, if◌then◌else◌, is_some, ap, ap₂, true≢false, ℕ, Bool, false, List, Option, Some, None, IfSome, refl, sym, subst, slice_index, true}
+use Rattle.std.specs.Prelude.{option_map}
 use Rattle.std.proofs.Math.Logic.{∥∥₁_elim}
 use Rattle.std.proofs.Props.{props}
 use Rattle.fancy_tree.specs.declared.tree.Meaning.{Meaning}
@@ -18,12 +19,18 @@ use Rattle.fancy_required.specs.Required.{StandsFrom}
 use Rattle.fancy_required.proofs.LackingLemmas.{text_lacking_is_none}
 use Rattle.fancy_meaning.specs.Events.{Event, returns_in}
 use Rattle.fancy_input.specs.Requests.{positions}
-use Rattle.fancy_search.specs.SearchCounts.{TriesNothing, lacks_required, is_hopeless, tried_by, returns_taken}
-use Rattle.fancy_meaning.specs.Search.{Query, Answer, search, attempt, answer_at, is_match_boundary, gone_through, gone_from, returns}
+use Rattle.fancy_tree.specs.declared.error.Error.{Error}
+use Rattle.fancy_input.specs.declared.work.Work.{Work}
+use Rattle.fancy_input.specs.Work.{steps_of}
+use Rattle.fancy_search.specs.Cached.{IsFoundBy}
+use Rattle.fancy_search.proofs.RefusalLemmas.{refuses_easy}
+use Rattle.fancy_search.proofs.ResultLemmas.{if_ok, if_err}
+use Rattle.fancy_search.specs.SearchCounts.{TriesNothing, RefusesEasy, lacks_required, is_hopeless, tried_by, returns_taken}
+use Rattle.fancy_meaning.specs.Search.{Query, Answer, search, span_of, attempt, answer_at, is_match_boundary, gone_through, gone_from, returns}
 use Rattle.fancy_code.specs.Queries.{answer_with}
 use Rattle.fancy_code.specs.declared.found.Found.{Found}
 use Rattle.fancy_search.specs.declared.asked.Asked.{Asked}
-use Rattle.fancy_search.specs.Served.{StandsIn, IsPosition}
+use Rattle.fancy_search.specs.Served.{StandsIn, IsPosition, KeepsCounts, ServesAlone}
 use Rattle.fancy_input.specs.declared.span.Span.{Span}
 use Rattle.fancy_input.specs.declared.input.Request.{Request}
 use Rattle.fancy_input.specs.Requests.{effective_start}
@@ -141,3 +148,27 @@ attempted r asked p easy tries =
     let parts = parts_of_easy _ _ _ easy in
     known _ _ r.compiled
     (λ compiled. anchored_easy (query_in r asked) r.code compiled.coded refl (sym r.meant) parts.1 parts.2 asked.inside (easy_code _ (r.light parts.0)) p tries.to tries.from)
+
+-- what was found is the answer without its groups
+pub found_by : (q : Query) (groups : List (Option Span)) (m : Option Found) → answer_with groups m ≡ search q → IsFoundBy m q
+found_by q groups None e = ap (option_map span_of) e
+found_by q groups (Some f) e = ap (option_map span_of) e
+
+-- what serves a search for an easy pattern that is not hopeless serves one whose groups are not asked
+pub served_easily : (r : Program) (asked : Asked) (groups : List (Option Span)) → program_is_easy r ≡ true → is_hopeless r (query_in r asked) ≡ false
+    → (result : Result (Option Found) Error) (before after : Work)
+    → IfOk result (λ m. answer_with groups m ≡ search (query_in r asked)) → KeepsCounts r result before after
+    → (NoneTried (program_options r).seek (query_in r asked) → steps_of after ≡ steps_of before)
+    → IfErr result (RefusesEasy r) → ServesAlone r asked result before after
+served_easily r asked groups easy hopeful result before after answer counts idle refused =
+    let q = query_in r asked in
+    record {
+      answer = if_ok _ _ (found_by q groups) result answer;
+      stands = if_ok _ _ (found_stands r asked groups) result answer;
+      counts = counts;
+      idle = λ none. idle (none_tried_in r q hopeful none);
+      none = λ none. if_ok _ _ (none_tried r q groups hopeful none) result answer;
+      hard = λ hard. absurd (true≢false (sym easy ∙ hard));
+      refused = if_err _ _ (refuses_easy r q) result refused;
+      allowed = if_ok _ _ (λ _ _ hard. absurd (true≢false (sym easy ∙ hard))) result answer;
+    }

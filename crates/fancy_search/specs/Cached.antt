@@ -1,8 +1,9 @@
 -- What searches work in, and what it holds of the last match, by whichever engine.
-use Rattle.std.specs.Prelude.{◌≡◌, ℕ, List, Option, None, IsTrue, replicate}
+use Rattle.std.specs.Prelude.{◌≡◌, ℕ, List, Option, None, IsTrue, option_map, replicate}
 use Rattle.fancy_input.specs.Places.{is_boundary}
+use Rattle.fancy_input.specs.Spans.{from_to}
 use Rattle.fancy_input.specs.declared.span.Span.{Span}
-use Rattle.fancy_meaning.specs.Search.{Query, Answer, search, attempt}
+use Rattle.fancy_meaning.specs.Search.{Query, Answer, search, attempt, span_of}
 use Rattle.fancy_code.specs.declared.found.Found.{Found}
 use Rattle.fancy_runner.specs.Groups.{groups_in}
 use Rattle.fancy_code.specs.Queries.{answer_with}
@@ -25,6 +26,10 @@ cached_groups c = groups_by c.served (groups_in c.runner) (groups_held c.machine
 abbrev pub found_at : Found → Cache → Answer
 found_at f c = record { position = f.position; state = record { place = f.end; captures = cached_groups c; kept = f.start } }
 
+-- from where to where it goes
+abbrev pub found_span : Found → Span
+found_span f = from_to f.start f.end
+
 -- what was found, with its groups, is the answer of the search
 abbrev pub IsAnswerIn : Option Found → Cache → Query → Type 0
 IsAnswerIn found c q = answer_with (cached_groups c) found ≡ search q
@@ -36,3 +41,7 @@ IsAttemptIn found c q p = answer_with (cached_groups c) found ≡ attempt q p
 -- what was found starts and ends on boundaries of characters
 abbrev pub IsCleanlyFound : List ℕ → Found → Type 0
 IsCleanlyFound haystack f = IsTrue (is_boundary haystack f.start) × IsTrue (is_boundary haystack f.end)
+
+-- what was found, without its groups, is the answer of the search
+abbrev pub IsFoundBy : Option Found → Query → Type 0
+IsFoundBy found q = option_map found_span found ≡ option_map span_of (search q)

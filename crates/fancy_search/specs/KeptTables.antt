@@ -10,6 +10,7 @@ use Rattle.fancy_input.specs.declared.input.Request.{Request}
 use Rattle.fancy_runner.specs.KeptTable.{IsKept, table_in, steps_ahead, steps_from, taken_again}
 use Rattle.fancy_input.specs.Work.{steps_of}
 use Rattle.fancy_code.specs.declared.found.Found.{Found}
+use Rattle.fancy_runner.specs.declared.notes.Cache.{Cache as RunnerCache}
 use Rattle.fancy_runner.specs.declared.notes.KeptTable.{KeptTable}
 use Rattle.fancy_input.specs.declared.work.Work.{Work}
 use Rattle.fancy_states.specs.declared.cells.Cells.{Cells}
@@ -42,10 +43,10 @@ keeps_no_table (Runner (Some k)) = false
 keeps_no_table Steps = true
 keeps_no_table Lines = false
 
--- The table in the cache is kept for searches with the program that start at `place` or later. What was read of the last lines is true
--- of the haystack.
-abbrev pub KeepsTable : Program → List ℕ → Request → KeptTable → ℕ → Cache → Type 0
-KeepsTable program haystack request kept place cache = IsKept program.code haystack request (search_options program.options) kept place cache.runner.notes
+-- The table that the runner holds is kept for searches with the program that start at `place` or later. What was read of the last lines
+-- is true of the haystack.
+abbrev pub KeepsTable : Program → List ℕ → Request → KeptTable → ℕ → RunnerCache → Type 0
+KeepsTable program haystack request kept place runner = IsKept program.code haystack request (search_options program.options) kept place runner.notes
 
 -- the table, if one is kept
 abbrev pub table_kept : Kept → Option KeptTable
@@ -55,17 +56,17 @@ table_kept Steps = None
 table_kept Lines = None
 
 -- so many steps are ahead of the searches from one with this request on, with the table that is kept, if one is
-abbrev pub ahead_with : Program → Request → Option KeptTable → Cache → ℕ
-ahead_with program request kept cache = steps_from kept program.code request (effective_start request) (table_in cache.runner)
+abbrev pub ahead_with : Program → Request → Option KeptTable → RunnerCache → ℕ
+ahead_with program request kept runner = steps_from kept program.code request (effective_start request) (table_in runner)
 
 -- and so many may be taken by it, with those that are taken again
-abbrev pub most_with : Program → Request → Option KeptTable → Cache → ℕ
-most_with program request kept cache = ahead_with program request kept cache + taken_again kept program.code (effective_start request)
+abbrev pub most_with : Program → Request → Option KeptTable → RunnerCache → ℕ
+most_with program request kept runner = ahead_with program request kept runner + taken_again kept program.code (effective_start request)
 
 -- So many steps are ahead of the searches of a list, from one with this request on: where the table is kept, what its marks are worth that
 -- were not made, and a start at each position; else as many as a search alone may take.
 abbrev pub steps_to_go : Program → Request → Kept → Cache → ℕ
-steps_to_go program request kept cache = ahead_with program request (table_kept kept) cache
+steps_to_go program request kept cache = ahead_with program request (table_kept kept) cache.runner
 
 -- A search takes at most the steps that are ahead of it, and one for each instruction.
 abbrev pub TakesStepsToGo : Program → Request → Kept → Cache → Work → Work → Type 0
@@ -126,7 +127,7 @@ KeepsLines haystack cache = KnowsLastLines haystack (lines_held cache.machine)
 -- what is kept in the cache, if anything is, is for searches with the program that start at `place` or later
 abbrev pub IsKeptIn : Program → List ℕ → Request → Kept → ℕ → Cache → Type 0
 IsKeptIn program haystack request kept place cache =
-    ForSome (table_kept kept) (λ k. KeepsTable program haystack request k place cache) × (is_steps kept ≡ true → KeepsSteps program cache.steps.cells)
+    ForSome (table_kept kept) (λ k. KeepsTable program haystack request k place cache.runner) × (is_steps kept ≡ true → KeepsSteps program cache.steps.cells)
     × (kept ≡ Lines → KeepsLines haystack cache)
 
 -- and for those that ask the same, but start at `place` or later

@@ -13,7 +13,7 @@ use Rattle.fancy_search.specs.declared.asked.Asked.{Asked}
 use Rattle.fancy_search.specs.declared.cache.Cache.{Cache}
 use Rattle.fancy_search.specs.declared.program.Program.{Program}
 use Rattle.fancy_search.specs.Programs.{KeepsCharacters, program_options, program_limit, program_stack_limit, query_in}
-use Rattle.fancy_search.specs.Cached.{IsAnswerIn, IsCleanlyFound}
+use Rattle.fancy_search.specs.Cached.{IsAnswerIn, IsCleanlyFound, IsFoundBy}
 use Rattle.fancy_search.specs.SearchCounts.{IsHardProgram, TriesNothing, RefusesQuery, RefusesEasy, AllowsQuery, IsStopped, IsOutOfSteps, HeedsStepLimit, HasNoStepsLeft, AddsReturns, AddsReturnsUpTo, IfFound, returns_taken}
 
 -- the position is from the effective start of the request to the end of its range
@@ -58,6 +58,17 @@ pub record Serves (r : Program) (asked : Asked) (result : Result (Option Found) 
   pub refused : IfErr result (RefusesQuery r (query_in r asked))
   pub allowed : IfOk result (λ _. AllowsQuery r (query_in r asked))
   pub heeds : HeedsStackLimit r old new
+
+-- The answer of a search whose groups are not asked, with what it adds to the counts.
+pub record ServesAlone (r : Program) (asked : Asked) (result : Result (Option Found) Error) (before after : Work) : Type 0 where
+  pub answer : IfOk result (λ m. IsFoundBy m (query_in r asked))
+  pub stands : IfFound result (StandsIn r asked)
+  pub counts : KeepsCounts r result before after
+  pub idle : TriesNothing r (query_in r asked) → steps_of after ≡ steps_of before
+  pub none : TriesNothing r (query_in r asked) → IfOk result (λ m. m ≡ None)
+  pub hard : IsHardProgram r → CountsReturns r (query_in r asked) result before after
+  pub refused : IfErr result (RefusesQuery r (query_in r asked))
+  pub allowed : IfOk result (λ _. AllowsQuery r (query_in r asked))
 
 -- The answer of a search for an easy pattern, with what it adds to the counts. It does not work in what the machine holds.
 pub record ServesEasily (r : Program) (q : Query) (result : Result (Option Found) Error) (old new : Cache) (before after : Work) : Type 0 where

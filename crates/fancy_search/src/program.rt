@@ -13,6 +13,7 @@ ghost use Rattle.fancy_code.specs.CodeLength.{code_len};
 ghost use Rattle.fancy_code.specs.Compile.{are_easy};
 ghost use Rattle.fancy_meaning.specs.Easy.{is_easy};
 ghost use Rattle.fancy_meaning.specs.Placed.{has_raw_byte, has_keep_start_in_look_around};
+ghost use Rattle.fancy_runner.specs.Groups.{groups_in};
 ghost use Rattle.fancy_runner.specs.KeptTable.{table_base, table_in, place_kept, past_tried, steps_ahead, steps_from};
 ghost use Rattle.fancy_input.specs.Work.{steps_of, returns_of, units_of};
 ghost use Rattle.fancy_meaning.specs.Tried.{NoneTried};
@@ -179,7 +180,7 @@ fn end_of(found: Option<Found>, first: usize) -> usize {
 impl Program {
     ghost use Rattle.fancy_search.specs.SearchCounts.{RefusesEasy, IsOutOfSteps, AllowsAllSteps, tried_by, is_hopeless, IfFound, IsHardProgram, RefusesQuery, RefusesAttempt, AllowsAttempt, HasRoomFor, step_bound};
     ghost use Rattle.fancy_search.specs.Programs.{program_pattern, program_options, program_groups, program_names, program_length, program_is_easy, asked_of, query_in};
-    ghost use Rattle.fancy_search.specs.Served.{IsPosition, StandsIn, KeepsCounts, CountsReturns, HeedsStackLimit, Serves, ServesEasily};
+    ghost use Rattle.fancy_search.specs.Served.{IsPosition, StandsIn, KeepsCounts, CountsReturns, HeedsStackLimit, Serves, ServesAlone, ServesEasily};
     ghost use Rattle.fancy_search.specs.OneItem.{EndsByOne, answer_to};
     ghost use Rattle.fancy_search.specs.Starts.{may_start, NeverHolds};
     ghost use Rattle.fancy_search.specs.KeptTables.{KeepsTable, KeepsSteps, KeepsLines, IsKeptIn, IsKeptFor, KeepsNotes, LeavesNotes, table_kept, ahead_with, most_with, notes_to_go, TakesStepsToGo, SpendsSteps, KeepsOn, notes_ahead, is_steps, keeps_no_table};
@@ -328,6 +329,86 @@ impl Program {
         self.search_next(asked, &mut kept, &mut known, cache, work)
     }
 
+    /// The first match, as [`Program::search`] finds it, without its groups. What the engine works in is made for this search, and only
+    /// where it comes to one.
+    pub fn find(&self, asked: &Asked<'_>, work: &mut Work) -> Result<Option<Found>>
+        requires room { HasRoomFor self.now asked.now.request work.old }
+        ensures served { ServesAlone self.now asked.now result work.old work.new }
+        ensures bounded { program_is_easy self.now ≡ true
+            → steps_of work.new ≤ steps_of work.old + step_bound self.now asked.now.request }
+        ensures unlimited { program_is_easy self.now ≡ true
+            → AllowsAllSteps self.now asked.now.request work.old → IsOutOfSteps result → ⊥ }
+    {
+        let mut known = KnownBytes::new();
+        if self.is_hopeless(asked, &mut known) {
+            return Ok(None);
+        }
+        if self.easy {
+            return self.find_easily(asked, work);
+        }
+        self.find_hard(asked, work)
+    }
+
+    /// The same for an easy pattern.
+    fn find_easily(&self, asked: &Asked<'_>, work: &mut Work) -> Result<Option<Found>>
+        requires easy { program_is_easy self.now ≡ true }
+        requires hopeful { is_hopeless self.now (query_in self.now asked.now) ≡ false }
+        requires room { HasRoomFor self.now asked.now.request work.old }
+        ensures served { ServesAlone self.now asked.now result work.old work.new }
+        ensures bounded { steps_of work.new
+            ≤ steps_of work.old + step_bound self.now asked.now.request }
+        ensures unlimited { AllowsAllSteps self.now asked.now.request work.old
+            → IsOutOfSteps result → ⊥ }
+    {
+        if self.is_followed(asked, &Kept::Nothing) && self.allows_all_steps(asked.request, work) {
+            return self.find_by_steps(asked.haystack, asked.request, work);
+        }
+        let mut table = None;
+        let mut runner = runner::Cache::new(*self.text.allocator());
+        self.run(asked.haystack, asked.request, &mut table, &mut runner, work)
+    }
+
+    /// The same by the automaton.
+    #[inline(never)]
+    fn find_by_steps(
+        &self,
+        haystack: &[u8],
+        request: Request,
+        work: &mut Work,
+    ) -> Result<Option<Found>>
+        requires inside { request.range_end ≤ length haystack.now }
+        requires easy { program_is_easy self.now ≡ true }
+        requires plain { ArePlain (instrs_of self.now.code) }
+        requires places { KeepsPlaces haystack.now self.now.code.meaning
+            (search_options self.now.options).on_boundaries }
+        requires room { HasRoomFor self.now request work.old }
+        requires allowed { AllowsAllSteps self.now request work.old }
+        ensures answer { IfOk result (λ m. (on : Bool)
+            → answer_with (replicate (program_groups self.now) None) m
+            ≡ search (asked_of self.now haystack.now request on)) }
+        ensures counts { KeepsCounts self.now result work.old work.new }
+        ensures idle { (on : Bool) → NoneTried (program_options self.now).seek
+            (asked_of self.now haystack.now request on) → steps_of work.new ≡ steps_of work.old }
+        ensures bounded { steps_of work.new ≤ steps_of work.old + step_bound self.now request }
+        ensures refused { IfErr result (λ e. e ≡ Error.Memory) }
+    {
+        let mut kept = Kept::Nothing;
+        let mut steps = RememberedSteps::new(*self.text.allocator());
+        self.follow(haystack, request, &mut kept, &mut steps, work)
+    }
+
+    /// The same for a hard pattern.
+    #[inline(never)]
+    fn find_hard(&self, asked: &Asked<'_>, work: &mut Work) -> Result<Option<Found>>
+        requires hard { IsHardProgram self.now }
+        requires hopeful { is_hopeless self.now (query_in self.now asked.now) ≡ false }
+        requires room { HasRoomFor self.now asked.now.request work.old }
+        ensures served { ServesAlone self.now asked.now result work.old work.new }
+    {
+        let mut cache = Cache::new(*self.text.allocator());
+        self.backtrack(asked, false, &mut cache, work)
+    }
+
     /// A search of a list, as [`Program::search`] is a search alone: of one haystack up to one end, each from the end of the match
     /// before, or later.
     ///
@@ -406,9 +487,11 @@ impl Program {
             cache.served = Engine::WithoutGroups(self.code.groups);
             return self.follow(asked.haystack, asked.request, kept, &mut cache.steps, work);
         }
+        cache.served = Engine::Runner;
         let mut table = kept.table();
         *kept = Kept::Nothing;
-        let found = self.run(asked.haystack, asked.request, &mut table, cache, work)?;
+        let runner = &mut cache.runner;
+        let found = self.run(asked.haystack, asked.request, &mut table, runner, work)?;
         *kept = Kept::Runner(table);
         Ok(found)
     }
@@ -675,8 +758,10 @@ impl Program {
     {
         let from_position = anchored_at(asked.request, position);
         let mut table = notes.kept.table();
+        cache.served = Engine::Runner;
         cache.runner.swap_notes(&mut notes.notes);
-        let found = self.run(asked.haystack, from_position, &mut table, cache, work);
+        let runner = &mut cache.runner;
+        let found = self.run(asked.haystack, from_position, &mut table, runner, work);
         cache.runner.swap_notes(&mut notes.notes);
         notes.kept = Kept::Runner(table);
         found
@@ -909,7 +994,7 @@ impl Program {
         haystack: &[u8],
         request: Request,
         kept: &mut Option<KeptTable>,
-        cache: &mut Cache,
+        cache: &mut runner::Cache,
         work: &mut Work,
     ) -> Result<Option<Found>>
         requires inside { request.range_end ≤ length haystack.now }
@@ -917,9 +1002,13 @@ impl Program {
         requires room { HasRoomFor self.now request work.old }
         requires kept { IfSome kept.old (λ k. KeepsTable
             self.now haystack.now request k (effective_start request) cache.old) }
-        ensures served { (on : Bool) → ServesEasily self.now
-            (asked_of self.now haystack.now request on) result
-            cache.old cache.new work.old work.new }
+        ensures answer { IfOk result (λ m. (on : Bool)
+            → answer_with (groups_in cache.new) m
+            ≡ search (asked_of self.now haystack.now request on)) }
+        ensures counts { KeepsCounts self.now result work.old work.new }
+        ensures idle { (on : Bool) → NoneTried (program_options self.now).seek
+            (asked_of self.now haystack.now request on) → steps_of work.new ≡ steps_of work.old }
+        ensures refused { IfErr result (RefusesEasy self.now) }
         ensures here { IfFound result (λ f. f.start ≡ f.position) }
         ensures ordered { IfFound result (λ f. effective_start request ≤ f.end) }
         ensures kept { IfOk result (λ m. IfSome kept.new (λ k. KeepsTable
@@ -930,22 +1019,19 @@ impl Program {
         ensures bounded { steps_of work.new
             ≤ steps_of work.old + most_with self.now request kept.old cache.old }
         ensures passed { IfOk result (λ m. IfNone m (steps_of work.new
-            + steps_from kept.new self.now.code request (past_tried request)
-            (table_in cache.new.runner)
+            + steps_from kept.new self.now.code request (past_tried request) (table_in cache.new)
             ≤ steps_of work.old + most_with self.now request kept.old cache.old)) }
         ensures spent { IfFound result (λ f. steps_of work.new + steps_ahead self.now.code
-            request (table_base kept.old request) f.end (table_in cache.new.runner)
+            request (table_base kept.old request) f.end (table_in cache.new)
             ≤ steps_of work.old
             + (ahead_with self.now request kept.old cache.old + program_length self.now)) }
         ensures units { units_of work.new ≡ units_of work.old }
         ensures unlimited { kept.old ≡ None → AllowsAllSteps self.now request work.old
             → IsOutOfSteps result → ⊥ }
     {
-        cache.served = Engine::Runner;
-        let runner = &mut cache.runner;
         let options = self.options.for_search();
         let wanted = runner::Wanted { request, options };
-        match runner::search(&self.code, haystack, wanted, kept, runner, work) {
+        match runner::search(&self.code, haystack, wanted, kept, cache, work) {
             Ok(found) => Ok(found),
             Err(refusal) => Err(error_of(refusal)),
         }

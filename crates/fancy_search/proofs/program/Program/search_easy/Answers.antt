@@ -1,7 +1,7 @@
 use Rattle.std.proofs.Common.{refl, arith}
 use Rattle.std.proofs.lemmas.Result.{err_from_is_err_and}
 use Rattle.fancy_input.specs.Requests.{effective_start}
-use Rattle.fancy_search.specs.declared.cache.Engine.TheVariants.{WithoutGroups}
+use Rattle.fancy_search.specs.declared.cache.Engine.TheVariants.{Runner, WithoutGroups}
 use Rattle.fancy_search.specs.KeptTables.{KeepsTable, table_kept}
 use Rattle.fancy_search.proofs.KeptTablesLemmas.{if_some_at, found_table, found_steps, found_spent, found_goes_on}
 use Rattle.fancy_runner.proofs.KeptTableLemmas.{again_paid}
@@ -11,7 +11,7 @@ use Rattle.fancy_search.proofs.ResultLemmas.{if_ok, if_err}
 use Rattle.fancy_search.proofs.program.Program.search_easy.Goals as goal
 
 pub run-requires-clause-kept : goal.run-requires-clause-kept
-run-requires-clause-kept c = if_some_at _ (table_kept c.args.kept.now) (λ k. KeepsTable c.args.self.now c.args.asked.now.haystack.now c.args.asked.now.request k (effective_start c.args.asked.now.request) c.args.cache.now) c.table-table.ensures c.requires.kept.0
+run-requires-clause-kept c = if_some_at _ (table_kept c.args.kept.now) (λ k. KeepsTable c.args.self.now c.args.asked.now.haystack.now c.args.asked.now.request k (effective_start c.args.asked.now.request) c.args.cache.now.runner) c.table-table.ensures c.requires.kept.0
 
 pub follow-requires-clause-plain : goal.follow-requires-clause-plain
 follow-requires-clause-plain c = c.if-is_followed.ensures.plain refl
@@ -29,15 +29,27 @@ returns-then-allows_all_steps-clause-served c = record {
 }
 
 pub returns-clause-served : goal.returns-clause-served
-returns-clause-served c = c.in_ok-found.ensures.served c.args.asked.now.continues
+returns-clause-served c = record {
+  answer = c.in_ok-found.ensures.answer c.args.asked.now.continues;
+  counts = c.in_ok-found.ensures.counts;
+  idle = c.run.ensures.idle c.args.asked.now.continues;
+  refused = tt;
+  apart = refl;
+}
 
 pub returns-in_err-found-clause-served : goal.returns-in_err-found-clause-served
 returns-in_err-found-clause-served c =
     let q = err_from_is_err_and c.from_residual.result c.from_residual.ensures.1 in
-    rw (q.1, q.2) (c.in_err-found.ensures.served c.args.asked.now.continues)
+    rw (q.1, q.2) record {
+      answer = tt;
+      counts = c.in_err-found.ensures.counts;
+      idle = c.run.ensures.idle c.args.asked.now.continues;
+      refused = c.in_err-found.ensures.refused;
+      apart = refl;
+    }
 
 pub returns-clause-kept : goal.returns-clause-kept
-returns-clause-kept c = (found_table c.args.self.now c.args.asked.now.haystack.now c.run.new.cache c.args.asked.now.request c.run.new.kept c.in_ok-found.found c.in_ok-found.ensures.kept)
+returns-clause-kept c = (found_table c.args.self.now c.args.asked.now.haystack.now (record c.args.cache.now { served = Runner; runner = c.run.new.cache }) c.args.asked.now.request c.run.new.kept c.in_ok-found.found c.in_ok-found.ensures.kept)
 
 pub returns-clause-bounded : goal.returns-clause-bounded
 returns-clause-bounded c =
@@ -52,7 +64,7 @@ returns-clause-fresh c none =
 pub returns-clause-spent : goal.returns-clause-spent
 returns-clause-spent c =
     (found_spent c.args.self.now c.args.asked.now.request c.args.kept.now c.run.new.kept c.in_ok-found.found (rw c.table-table.ensures at c.in_ok-found.ensures.left)
-    c.run.new.cache _ (steps_of c.run.new.work) (rw c.table-table.ensures at c.in_ok-found.ensures.spent))
+    (record c.args.cache.now { served = Runner; runner = c.run.new.cache }) _ (steps_of c.run.new.work) (rw c.table-table.ensures at c.in_ok-found.ensures.spent))
 
 pub returns-clause-goes_on : goal.returns-clause-goes_on
 returns-clause-goes_on c =

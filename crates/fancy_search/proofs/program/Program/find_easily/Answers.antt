@@ -1,0 +1,27 @@
+use Rattle.std.proofs.Common.{refl}
+use Rattle.std.specs.Prelude.{None, replicate}
+use Rattle.fancy_runner.specs.Groups.{groups_in}
+use Rattle.fancy_search.specs.Programs.{program_groups}
+use Rattle.fancy_search.specs.SearchCounts.{RefusesEasy}
+use Rattle.fancy_search.proofs.ResultLemmas.{if_ok, if_err}
+use Rattle.fancy_search.proofs.SearchedLemmas.{served_easily}
+use Rattle.fancy_search.proofs.program.Program.find_easily.Goals as goal
+
+pub find_by_steps-requires-clause-plain : goal.find_by_steps-requires-clause-plain
+find_by_steps-requires-clause-plain c = c.if-is_followed.ensures.plain refl
+
+pub find_by_steps-requires-clause-places : goal.find_by_steps-requires-clause-places
+find_by_steps-requires-clause-places c = c.if-is_followed.ensures.places refl
+
+pub returns-then-allows_all_steps-clause-served : goal.returns-then-allows_all_steps-clause-served
+returns-then-allows_all_steps-clause-served c =
+    served_easily c.args.self.now c.args.asked.now (replicate (program_groups c.args.self.now) None) c.requires.easy c.requires.hopeful c.find_by_steps.result _ _
+    (if_ok _ _ (λ m is. is c.args.asked.now.continues) c.find_by_steps.result c.find_by_steps.ensures.answer)
+    c.find_by_steps.ensures.counts (c.find_by_steps.ensures.idle c.args.asked.now.continues)
+    (if_err _ (RefusesEasy c.args.self.now) (λ e memory. rw memory tt) c.find_by_steps.result c.find_by_steps.ensures.refused)
+
+pub returns-clause-served : goal.returns-clause-served
+returns-clause-served c =
+    served_easily c.args.self.now c.args.asked.now (groups_in c.run.new.cache) c.requires.easy c.requires.hopeful c.run.result _ _
+    (if_ok _ _ (λ m is. is c.args.asked.now.continues) c.run.result c.run.ensures.answer)
+    c.run.ensures.counts (c.run.ensures.idle c.args.asked.now.continues) c.run.ensures.refused
