@@ -1,5 +1,6 @@
-//! Tests of builders, of byte sets, and of pattern sets and tokens, through public names. What the program `calls` can be asked for are
-//! rows in `crates/calls/rows.txt`: here are values that a caller makes and changes.
+//! Tests of builders, of byte sets, and of pattern sets and tokens, through public names, and of the commands of `fre`, what they
+//! write and their statuses. What the program `calls` can be asked for are rows in `crates/calls/rows.txt`: here are values that a
+//! caller makes and changes, and writers that fail.
 #![tactic(auto)]
 
 #[cfg(test)]
@@ -8,6 +9,8 @@ mod asking;
 mod builders;
 #[cfg(test)]
 mod byte_sets;
+#[cfg(test)]
+mod commands;
 #[cfg(test)]
 mod options;
 #[cfg(test)]

@@ -1,6 +1,6 @@
-//! The functions that the README shows, on searches, options and refusals. `tools/readme.py` compares them with it.
+//! The functions that the README and the guide show, on searches, options and refusals. `tools/readme.py` compares these pages
+//! with them.
 
-use crate::asking::{check, is_given_up};
 use fancy_regex::{
     BytesMode, Error, Regex, RegexInput, RegexOptionsBuilder, RegexSet, Result, RuntimeError,
 };
@@ -122,62 +122,63 @@ fn tokens_of_line<'t>(
     Ok(tokens)
 }
 
-#[test]
-fn examples(rt: HostRuntime) {
+/// Prints what functions find in texts.
+fn show_searches(rt: &(impl Print + AllocGlobal)) -> anyhow::Result<()> {
     let alloc = rt.alloc();
-    let found = first_match(alloc, "xab").expect(&rt, "a|ab");
-    check(&rt, found == Some((1, 2)), "a|ab");
-    let length = header_len(alloc, b"\xFF\xD8ab\x00c").expect(&rt, "a header");
-    check(&rt, length == Some(5), "a header");
-    let stops = says_stop(alloc, "go\nStop\n").expect(&rt, "stop");
-    check(&rt, stops, "stop");
-    let twice = has_a_word_twice(alloc, "mirror mirror on the wall").expect(&rt, "twice");
-    check(&rt, twice == Some(true), "twice");
-    let place = place_of_fault(alloc, "(?:a").expect(&rt, "a fault");
-    check(&rt, place == Some(4), "a fault");
+    let found = first_match(alloc, "xab")?;
+    println!(rt; "a match: {found:?}")?;
+    let length = header_len(alloc, b"\xFF\xD8ab\x00c")?;
+    println!(rt; "a header: {length:?}")?;
+    let stops = says_stop(alloc, "go\nStop\n")?;
+    println!(rt; "a stop: {stops}")?;
+    let twice = has_a_word_twice(alloc, "mirror mirror on the wall")?;
+    println!(rt; "a word twice: {twice:?}")?;
+    let place = place_of_fault(alloc, "(?:a")?;
+    println!(rt; "a fault: {place:?}")?;
+    Ok(())
 }
 
-#[test]
-fn a_number(rt: HostRuntime) {
-    let number = Regex::new(rt.alloc(), r"\d+").expect(&rt, "a regex");
-    let found = number_at(&number, "on 2026", 3).expect(&rt, "a number");
-    check(&rt, found == Some("2026"), "a number");
-    let found = number_at(&number, "on 2026", 2).expect(&rt, "no number");
-    check(&rt, found.is_none(), "no number");
+/// Prints the numbers at two places of a text.
+fn show_numbers(rt: &impl Print, number: &Regex) -> anyhow::Result<()> {
+    for place in [3, 2] {
+        let found = number_at(number, "on 2026", place)?;
+        println!(rt; "a number at {place}: {found:?}")?;
+    }
+    Ok(())
 }
 
-#[test]
-fn a_token(rt: HostRuntime) {
-    let kinds = kinds_of_tokens(rt.alloc()).expect(&rt, "a set");
-    let token = first_token(&kinds, "42 is").expect(&rt, "a token");
-    check(&rt, token == Some((1, 2)), "a token");
+/// Prints the kind and the length of the token that a text begins with.
+fn show_token(rt: &impl Print, kinds: &RegexSet) -> anyhow::Result<()> {
+    let token = first_token(kinds, "42 is")?;
+    println!(rt; "a token: {token:?}")?;
+    Ok(())
 }
 
-/// The tokens of a line.
-const TOKENS: &[(usize, &str)] = &[
-    (0, "let"),
-    (7, " "),
-    (1, "x"),
-    (7, " "),
-    (4, "="),
-    (7, " "),
-    (2, "2.5"),
-    (5, ";"),
-    (7, " "),
-    (6, "// half"),
-];
-
-#[test]
-fn a_lexer(rt: HostRuntime) {
-    let lexer = lexer(rt.alloc()).expect(&rt, "a lexer");
-    let tokens = tokens_of_line(rt.alloc(), &lexer, "let x = 2.5; // half").expect(&rt, "a line");
-    check(&rt, tokens.as_slice() == TOKENS, "the tokens");
+/// Prints the tokens of a line, or why it has none.
+fn show_tokens(
+    rt: &impl Print,
+    line: &str,
+    tokens: Result<Vec<(usize, &str)>>,
+) -> anyhow::Result<()> {
+    match tokens {
+        Ok(tokens) => println!(rt; "{line}: {tokens:?}")?,
+        Err(error) => println!(rt; "{line}: {error}")?,
+    }
+    Ok(())
 }
 
-#[test]
-fn a_lexer_refuses(rt: HostRuntime) {
-    let lexer = lexer(rt.alloc()).expect(&rt, "a lexer");
-    let refused = tokens_of_line(rt.alloc(), &lexer, "x ? y");
-    let is_unmatched = is_given_up(&refused, RuntimeError::Unmatched(2));
-    check(&rt, is_unmatched, "no token at 2");
+/// Prints the tokens of two lines, the second of which has none at its third byte.
+fn show_lines(rt: &(impl Print + AllocGlobal), lexer: &RegexSet) -> anyhow::Result<()> {
+    for line in ["let x = 2.5; // half", "x ? y"] {
+        show_tokens(rt, line, tokens_of_line(rt.alloc(), lexer, line))?;
+    }
+    Ok(())
+}
+
+/// Prints what each function answers.
+pub(crate) fn show(rt: &(impl Print + AllocGlobal)) -> anyhow::Result<()> {
+    show_searches(rt)?;
+    show_numbers(rt, &Regex::new(rt.alloc(), r"\d+")?)?;
+    show_token(rt, &kinds_of_tokens(rt.alloc())?)?;
+    show_lines(rt, &lexer(rt.alloc())?)
 }

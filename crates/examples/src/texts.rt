@@ -1,6 +1,6 @@
-//! The functions that the README shows, on groups, lists, pieces, replacement and templates. `tools/readme.py` compares them with it.
+//! The functions that the README and the guide show, on groups, lists, pieces, replacement and templates. `tools/readme.py`
+//! compares these pages with them.
 
-use crate::asking::{check, check_answer};
 use fancy_regex::{Captures, Expander, Regex, RegexInput, ReplaceFn, Replacer, Result};
 use std::alloc::Global;
 use std::borrow::CowStr;
@@ -87,40 +87,51 @@ fn check_template(alloc: Global, template: &str) -> Result<()> {
     Expander::default().check(template, &date)
 }
 
-#[test]
-fn examples(rt: HostRuntime) {
-    let alloc = rt.alloc();
-    let found = year_and_month(alloc, "on 2026-11").expect(&rt, "a date");
-    check(&rt, found == Some(("2026", "11")), "a date");
-    let found = numbers(alloc, "3 and 14").expect(&rt, "numbers");
-    check(&rt, found.as_slice() == ["3", "14"].as_slice(), "numbers");
-    let found = fields(alloc, "a , b,c").expect(&rt, "fields");
-    check(
-        &rt,
-        found.as_slice() == ["a", "b", "c"].as_slice(),
-        "fields",
-    );
-    check_answer(&rt, day_first(alloc, "on 2026-11-24"), "on 24.11.2026");
-    check_answer(&rt, with_line_numbers(alloc, "a\nb"), "1 a\n2 b");
-    check(
-        &rt,
-        check_template(alloc, "${month}.$year").is_ok(),
-        "a template",
-    );
-    check(&rt, check_template(alloc, "$day").is_err(), "another");
+/// Prints what functions find in texts.
+fn show_parts(rt: &(impl Print + AllocGlobal)) -> anyhow::Result<()> {
+    let date = year_and_month(rt.alloc(), "on 2026-11")?;
+    println!(rt; "a date: {date:?}")?;
+    let numbers = numbers(rt.alloc(), "3 and 14")?;
+    println!(rt; "numbers: {numbers:?}")?;
+    let fields = fields(rt.alloc(), "a , b,c")?;
+    println!(rt; "fields: {fields:?}")?;
+    Ok(())
 }
 
-#[test]
-fn lines_of_a_text(rt: HostRuntime) {
-    let date = Regex::new(rt.alloc(), r"\d{4}-\d\d-\d\d").expect(&rt, "a date");
-    let count = lines_with(&date, "on 2026-11-24\nno\n2026-11-25").expect(&rt, "lines");
-    check(&rt, count == 2, "two lines");
+/// Prints what functions make of texts.
+fn show_replaced(rt: &(impl Print + AllocGlobal)) -> anyhow::Result<()> {
+    let dated = day_first(rt.alloc(), "on 2026-11-24")?;
+    println!(rt; "the day first: {}", dated.as_str())?;
+    let numbered = with_line_numbers(rt.alloc(), "a\nb")?;
+    println!(rt; "numbers of lines: {:?}", numbered.as_str())?;
+    Ok(())
 }
 
-#[test]
-fn a_file(rt: HostRuntime) {
-    let empty = dates_in_file(&rt, "/dev/null").expect(&rt, "an empty file");
-    check(&rt, empty == Some(0), "an empty file");
-    let missing = dates_in_file(&rt, "/dev/null/none").expect(&rt, "no file");
-    check(&rt, missing.is_none(), "no file");
+/// Prints whether templates fit a date.
+fn show_templates(rt: &(impl Print + AllocGlobal)) -> anyhow::Result<()> {
+    for template in ["${month}.$year", "$day"] {
+        let fits = check_template(rt.alloc(), template).is_ok();
+        println!(rt; "{template} fits: {fits}")?;
+    }
+    Ok(())
+}
+
+/// Prints how many lines of a text and of files have a date. The second file cannot be read.
+fn show_lines(rt: &(impl Print + Files + AllocGlobal)) -> anyhow::Result<()> {
+    let date = Regex::new(rt.alloc(), r"\d{4}-\d\d-\d\d")?;
+    let count = lines_with(&date, "on 2026-11-24\nno\n2026-11-25")?;
+    println!(rt; "lines with a date: {count}")?;
+    for path in ["/dev/null", "/dev/null/none"] {
+        let count = dates_in_file(rt, path)?;
+        println!(rt; "in {path}: {count:?}")?;
+    }
+    Ok(())
+}
+
+/// Prints what each function answers.
+pub(crate) fn show(rt: &(impl Print + Files + AllocGlobal)) -> anyhow::Result<()> {
+    show_parts(rt)?;
+    show_replaced(rt)?;
+    show_templates(rt)?;
+    show_lines(rt)
 }

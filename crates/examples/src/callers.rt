@@ -1,6 +1,5 @@
 //! Callers of `fancy_regex` with contracts of their own, as its page on callers shows them. They name no other crate of the
 //! library, neither in their code nor in their contracts.
-#![tactic(auto)]
 
 ghost use Rattle.std.specs.Prelude.{◌≡◌, IfErr, IfOk, IfSome, None, is_some, true};
 ghost use Rattle.fancy_regex.specs.GroupTexts.{bytes_of_str};
@@ -87,4 +86,15 @@ pub fn matches_are_in_order<S: Input>(regex: &Regex, input: &RegexInput<S>)
     ensures { InOrder (matches_of_input regex.now S.text S.bytes input.now) }
 {
     ends_increase(regex, input)
+}
+
+/// Prints what callers answer of a constant line, and the pattern for a word.
+pub(crate) fn show(rt: &(impl Print + AllocGlobal)) -> anyhow::Result<()> {
+    let dated = has_date(rt.alloc(), LINE)?;
+    println!(rt; "{LINE} has a date: {dated}")?;
+    let found = match_of_constant(&Regex::new(rt.alloc(), "\\d+")?)?;
+    println!(rt; "and a number: {found:?}")?;
+    let pattern = pattern_of_word(rt.alloc(), "a.b")?;
+    println!(rt; "a.b as a pattern: {}", pattern.as_str())?;
+    Ok(())
 }
