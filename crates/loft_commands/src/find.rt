@@ -3,9 +3,8 @@
 use crate::json::write_json;
 use crate::patterns::Pattern;
 use fancy_regex::{ByteSet, CaptureMatches, Captures, MatchBytes, Matches};
-use loft_texts::{Colour, Content, Fault, Text, TextWork, write_painted};
+use loft_texts::{Content, Fault, MatchWriter, Text, TextWork, write_rest, write_up_to};
 use loft_words::Report;
-use memchr::{memchr, memrchr};
 use std::io::{self, Write};
 
 /// Finds texts that match.
@@ -13,43 +12,10 @@ use std::io::{self, Write};
 pub(crate) struct Find<'r> {
     pattern: &'r Pattern,
     report: Report,
-    colours: bool,
+    writer: MatchWriter,
     found: bool,
     /// How many texts of the file matched so far.
     count: u64,
-}
-
-/// The bytes of a text from one place to another; nothing where it has no such part.
-fn part(text: &[u8], start: usize, end: usize) -> &[u8] {
-    text.get(start..end).unwrap_or(b"")
-}
-
-/// What stands after the last line feed.
-fn last_line(text: &[u8]) -> &[u8] {
-    match memrchr(b'\n', text) {
-        Some(feed) => &text[feed + 1..],
-        None => text,
-    }
-}
-
-/// What stands before the first line feed.
-fn first_line(text: &[u8]) -> &[u8] {
-    match memchr(b'\n', text) {
-        Some(feed) => &text[..feed],
-        None => text,
-    }
-}
-
-/// Writes a text from a place on up to the end of a match, which is in colour. Where that is.
-fn write_up_to<W: Write>(
-    text: &[u8],
-    at: usize,
-    found: MatchBytes<'_>,
-    out: &mut W,
-) -> io::Result<usize> {
-    out.write_all(part(text, at, found.start()))?;
-    write_painted(true, Colour::MATCH, found.as_bytes(), out)?;
-    Ok(found.end())
 }
 
 /// Writes a text up to the end of the last match of a list, which are in colour. Where that is.
@@ -65,29 +31,16 @@ fn write_up_to_each<W: Write>(
     Ok(at)
 }
 
-/// Writes bytes as a line.
-fn write_line<W: Write>(bytes: &[u8], out: &mut W) -> io::Result<()> {
-    out.write_all(bytes)?;
-    out.write_all(b"\n")
-}
-
 impl<'r> Find<'r> {
     /// Finds by this pattern.
     pub(crate) fn new(pattern: &'r Pattern, report: Report, colours: bool) -> Find<'r> {
         Find {
             pattern,
             report,
-            colours,
+            writer: MatchWriter { colours },
             found: false,
             count: 0,
         }
-    }
-
-    /// Writes the file's name, the line and the column of a byte of the text.
-    fn write_place<W: Write>(&self, text: &Text<'_>, at: usize, out: &mut W) -> io::Result<()> {
-        let place = text.place(at);
-        write_painted(self.colours, Colour::FILE, text.file.as_bytes(), out)?;
-        write!(out, ":{}:{}:", place.line, place.column)
     }
 
     /// Writes the text with its place, its matches in colour.
@@ -97,13 +50,13 @@ impl<'r> Find<'r> {
         first: MatchBytes<'_>,
         out: &mut W,
     ) -> Result<(), Fault> {
-        self.write_place(text, first.start(), out)?;
-        let at = if self.colours {
+        self.writer.write_place(text, first.start(), out)?;
+        let at = if self.writer.colours {
             self.write_coloured(text, out)?
         } else {
             0
         };
-        write_line(part(text.bytes(), at, text.bytes().len()), out)?;
+        write_rest(text.bytes(), at, out)?;
         Ok(())
     }
 
@@ -140,26 +93,9 @@ impl<'r> Find<'r> {
         out: &mut W,
     ) -> io::Result<()> {
         if let Report::Lines = self.report {
-            return self.write_part(text, found, out);
+            return self.writer.write_part(text, found, out);
         }
-        write_painted(self.colours, Colour::MATCH, found.as_bytes(), out)?;
-        out.write_all(b"\n")
-    }
-
-    /// Writes the place of a match, and the lines that it is in.
-    fn write_part<W: Write>(
-        &self,
-        text: &Text<'_>,
-        found: MatchBytes<'_>,
-        out: &mut W,
-    ) -> io::Result<()> {
-        self.write_place(text, found.start(), out)?;
-        out.write_all(last_line(part(text.bytes(), 0, found.start())))?;
-        write_painted(self.colours, Colour::MATCH, found.as_bytes(), out)?;
-        write_line(
-            first_line(part(text.bytes(), found.end(), text.bytes().len())),
-            out,
-        )
+        self.writer.write_match(found, out)
     }
 
     /// Writes each match of the text with its groups.
@@ -193,24 +129,10 @@ impl<'r> Find<'r> {
         }
         for number in 0..captures.len() {
             if let Some(group) = captures.get(number) {
-                self.write_group(text, number, group, out)?;
+                self.writer.write_group(text, number, group, out)?;
             }
         }
         Ok(())
-    }
-
-    /// Writes the place, the number and the text of a group.
-    fn write_group<W: Write>(
-        &self,
-        text: &Text<'_>,
-        number: usize,
-        group: MatchBytes<'_>,
-        out: &mut W,
-    ) -> io::Result<()> {
-        self.write_place(text, group.start(), out)?;
-        write!(out, "{number}=")?;
-        write_painted(self.colours, Colour::MATCH, group.as_bytes(), out)?;
-        out.write_all(b"\n")
     }
 }
 

@@ -18,7 +18,6 @@ mod check;
 mod commands;
 mod explain;
 mod find;
-mod hard_forms;
 mod in_place;
 mod json;
 mod patterns;

@@ -1,7 +1,9 @@
 //! The tokens of whole files, by the patterns of a list of rules.
 
 use fancy_regex::{Error, RegexInput, RegexSet, RuntimeError, Token};
-use loft_texts::{Colour, Fault, Rule, Text, TextWork, write_painted};
+use loft_texts::{
+    Fault, Part, Rule, Text, TextWork, character_width, write_highlighted, write_token,
+};
 use std::io::{self, Write};
 
 /// Writes the tokens of texts.
@@ -14,55 +16,6 @@ pub(crate) struct Tokens<'r> {
     /// Whether the text is written in colours, and not the tokens one by one.
     highlight: bool,
     found: bool,
-}
-
-/// A part of a text with its kind; none where no pattern gave a token.
-#[derive(Clone, Copy)]
-struct Part {
-    kind: Option<usize>,
-    start: usize,
-    end: usize,
-}
-
-/// Writes a text with a backslash before what would end the line, and before a backslash.
-fn write_in_line<W: Write>(bytes: &[u8], out: &mut W) -> io::Result<()> {
-    for piece in bytes.split_inclusive(|byte| matches!(byte, b'\n' | b'\r' | b'\\')) {
-        write_piece(piece, out)?;
-    }
-    Ok(())
-}
-
-/// Writes a text in which at most the last byte wants a backslash.
-fn write_piece<W: Write>(piece: &[u8], out: &mut W) -> io::Result<()> {
-    let (rest, end): (&[u8], &[u8]) = match piece {
-        [rest @ .., b'\n'] => (rest, b"\\n"),
-        [rest @ .., b'\r'] => (rest, b"\\r"),
-        [rest @ .., b'\\'] => (rest, b"\\\\"),
-        rest => (rest, b""),
-    };
-    out.write_all(rest)?;
-    out.write_all(end)
-}
-
-/// Writes a text in the colour of its kind, as it is where it has none.
-fn write_highlighted<W: Write>(kind: Option<usize>, bytes: &[u8], out: &mut W) -> io::Result<()> {
-    match kind {
-        Some(kind) => write_painted(true, Colour::of_kind(kind), bytes, out),
-        None => out.write_all(bytes),
-    }
-}
-
-/// Writes a line of a token: its kind, its place and its text.
-fn write_token<W: Write>(kind: &str, part: Part, bytes: &[u8], out: &mut W) -> io::Result<()> {
-    write!(out, "{kind} {}..{} ", part.start, part.end)?;
-    write_in_line(bytes, out)?;
-    out.write_all(b"\n")
-}
-
-/// How many bytes the character takes that begins at a place, a byte that is in none being one.
-fn character_width(text: &[u8], at: usize) -> usize {
-    let (_, width) = bstr::decode_utf8(text.get(at..).unwrap_or(b""));
-    width.max(1)
 }
 
 /// The part of a text that a token is.

@@ -31,7 +31,7 @@ fn form_here(rest: &str) -> Option<&'static str> {
 
 /// The first form in the text of a pattern that makes it hard, and its place in bytes. What is escaped is passed over, and what
 /// is in a class.
-pub(crate) fn first_hard_form(pattern: &str) -> Option<(usize, &'static str)> {
+pub fn first_hard_form(pattern: &str) -> Option<(usize, &'static str)> {
     let mut escaped = false;
     let mut open = 0usize;
     for (at, c) in pattern.char_indices() {
