@@ -10,7 +10,7 @@ mod verdicts;
 
 pub(crate) use commands::{BrokenRow, CommandRow, check_broken, check_commands, check_deaf};
 pub(crate) use fact::check;
-pub(crate) use sets::{Item, check_matches_at, searched};
+pub(crate) use sets::{check_matches_at, searched};
 pub(crate) use spans::{Span, check_read, is_part, owned};
 pub(crate) use tokens::check_tokens_within;
-pub(crate) use verdicts::{Verdict, check_verdict, is_given_up};
+pub(crate) use verdicts::{Verdict, check_verdict};

@@ -106,7 +106,7 @@ pub(crate) type PartsRow = (
 );
 
 /// Where the group starts and ends, and its text, if it took part.
-pub(crate) fn part_of<'t>(captures: &Captures<'_, &'t str>, group: Group) -> Part<'t> {
+fn part_of<'t>(captures: &Captures<'_, &'t str>, group: Group) -> Part<'t> {
     match group {
         Group::Numbered(number) => match captures.get(number) {
             Some(found) => Some((span_of(found), captures.text(number))),

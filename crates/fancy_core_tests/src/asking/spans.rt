@@ -17,7 +17,7 @@ pub(crate) fn span_of(found: Match<'_>) -> Span {
 }
 
 /// Where what was found starts and ends, if anything was.
-pub(crate) fn span_found<M: Into<Range<usize>>>(
+fn span_found<M: Into<Range<usize>>>(
     rt: &impl Abort,
     found: fancy_tree::error::Result<Option<M>>,
     pattern: &str,

@@ -7,7 +7,7 @@ use fancy_regex::{
 use std::process::Abort;
 
 /// The index of a pattern and where its match stands, or none where it is refused past its limit of returns.
-pub(crate) type Item = Option<(usize, Span)>;
+type Item = Option<(usize, Span)>;
 
 /// What the set finds in the input, which it may search.
 pub(crate) fn searched<'s, S: Input>(

@@ -1,7 +1,7 @@
-//! What is accepted, what is refused and why, and what is given up.
+//! What is accepted, and what is refused and why.
 
 use crate::asking::check;
-use fancy_regex::{CompileError, Error, ParseErrorKind, RuntimeError};
+use fancy_regex::{CompileError, Error, ParseErrorKind};
 use std::process::Abort;
 
 /// What becomes of a pattern.
@@ -33,9 +33,4 @@ pub(crate) fn check_verdict<T>(
         _ => false,
     };
     check(rt, holds, words);
-}
-
-/// Whether a search is given up for this reason.
-pub(crate) fn is_given_up<T>(answer: &fancy_regex::Result<T>, reason: RuntimeError) -> bool {
-    matches!(answer, Err(Error::RuntimeError(why)) if *why == reason)
 }
