@@ -6,9 +6,11 @@
     tools/kept.py --lay NAME..    proves nothing: lays the kept libraries below these out, so that `rt check` begins with them
     tools/kept.py --forget        forgets all that is kept, and runs nothing
 
-It proves a crate by the same command as `rt ci`, and keeps what that built under a sum of the crate's files, of its libraries and of
-the kit. Where the sum is known nothing is proved again, and no edit is tried. It is a help while one works, and not the gate: `rt ci`
-trusts nothing that an earlier run left. What is kept lies in ~/.cache/loftlavender, or where LOFTLAVENDER_KEPT names a folder."""
+Where the kit's `rt ci` takes names and keeps what passed, it is run, and what it kept is laid out. Where it does neither, this tool
+does both: it proves a crate by the same command, and keeps what that built under a sum of the crate's files, of its libraries and of
+the kit. Where the sum is known nothing is proved again, and no edit is tried. That lies in ~/.cache/loftlavender, or where
+LOFTLAVENDER_KEPT names a folder. It is a help while one works, and not the gate."""
+import contextlib
 import functools
 import hashlib
 import os
@@ -122,28 +124,77 @@ def kept_kit(root, names):
     return rt
 
 
-def run(root, names, change=None):
-    """Runs the gate for these crates in a repository, once the kit's module is changed. Returns its status."""
-    rt = kept_kit(root, names)
-    if change:
-        change(rt)
+def keeps(rt):
+    """Whether the gate of the kit's module takes names, and keeps what passed."""
+    return hasattr(rt, "Kept")
+
+
+def kit():
+    """The kit's command as a module."""
+    return unproved.module("rtmain", unproved.rt_path())
+
+
+@contextlib.contextmanager
+def inside(root):
+    """Works in a folder."""
     here = os.getcwd()
     os.chdir(root)
     try:
-        return rt.ci()
+        yield
     finally:
         os.chdir(here)
 
 
+def run(root, names, change=None):
+    """Runs the gate for these crates in a repository, once the kit's module is changed. Returns its status."""
+    rt = kit()
+    call = functools.partial(rt.ci, False, names) if keeps(rt) else None
+    if not call:
+        rt = kept_kit(root, names)
+        call = rt.ci
+    if change:
+        change(rt)
+    with inside(root):
+        return call()
+
+
+class KitStore:
+    """What the gate of the kit kept."""
+
+    def __init__(self, root, rt):
+        rt.Crate.allowed = rt.handles_of(str(root))
+        self.crates = rt.crates_of(str(root))
+        self.kept = rt.Kept(self.crates)
+
+    def take(self, crate):
+        """Lays out what was built of the crate, whose libraries are laid out, and tells whether it was there."""
+        given = self.kept.give(crate, False, self.kept.key(crate))
+        if given:
+            self.kept.is_built(crate)
+        return given
+
+
+class OwnStore:
+    """What this tool kept."""
+
+    def __init__(self, root, rt):
+        self.crates, self.store = rt.rtlib.crates_below(str(root)), Store(root, rt.KIT)
+
+    def take(self, crate):
+        """Lays out what was built of the crate, and tells whether it was there."""
+        return self.store.take(crate.name, False)
+
+
 def lay_out(root, names):
     """Puts the kept libraries below these crates where `rt check` builds them, with the stamps by which it knows them. Gives their names."""
-    rtlib = unproved.module("rtmain", unproved.rt_path()).rtlib
-    store, laid = Store(root, rtlib.KIT), []
-    wanted = below(names, store.crates) - set(names)
-    for crate in rtlib.crates_below(str(root)):
-        if crate.name in wanted and store.take(crate.name, False):
-            Path(crate.folder, "out/rlib/stamp").write_text(crate.stamp(), encoding="utf-8")
-            laid.append(crate.name)
+    rt = kit()
+    wanted, laid = below(names, crates_in(root)) - set(names), []
+    with inside(root):
+        store = KitStore(root, rt) if keeps(rt) else OwnStore(root, rt)
+        for crate in store.crates:
+            if crate.name in wanted and store.take(crate):
+                Path(crate.folder, "out/rlib/stamp").write_text(crate.stamp(), encoding="utf-8")
+                laid.append(crate.name)
     return laid
 
 

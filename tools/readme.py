@@ -17,11 +17,11 @@ import rows
 
 ROOT = Path(__file__).resolve().parent.parent
 PAGES = [ROOT / "README.md", ROOT / "docs/GUIDE.md", ROOT / "crates/fancy_regex/CALLING.md"]
-EXAMPLES = [ROOT / "crates/caller_tests/src/searches.rt", ROOT / "crates/caller_tests/src/texts.rt"]
+EXAMPLES = [ROOT / "crates/examples/src/searches.rt", ROOT / "crates/examples/src/texts.rt"]
 PROGRAM = ROOT / "crates/dates"
 SOURCES = [
     *EXAMPLES,
-    ROOT / "crates/callers/src/lib.rt",
+    ROOT / "crates/examples/src/callers.rt",
     *sorted(PROGRAM.glob("src/*.rt")),
 ]
 
