@@ -1,5 +1,6 @@
 //! Parts of a text by their kinds.
 
+use crate::content::Content;
 use crate::paint::{Colour, write_painted};
 use std::io::{self, Write};
 
@@ -54,7 +55,10 @@ pub fn write_token<W: Write>(kind: &str, part: Part, bytes: &[u8], out: &mut W) 
 pub fn character_width(text: &[u8], at: usize) -> usize {
     let rest = text.get(at..).unwrap_or(b"");
     for width in 1..=4 {
-        if str::from_utf8(rest.get(..width).unwrap_or(b"")).is_ok() {
+        let Some(bytes) = rest.get(..width) else {
+            return 1;
+        };
+        if let Content::Text(_) = Content::of(bytes) {
             return width;
         }
     }
