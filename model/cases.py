@@ -10,10 +10,14 @@ What a case may hold is told by features:
     keep       `\\K`, `\\G`, conditionals
     replace    fre split, fre replace and templates
     sets       fre set
-    tokens     fre tokens
+    tokens     fre tokens; where nothing but sets and tokens is asked for, members have all forms
+    long       patterns of plain forms, and texts of 300 to 3,000 characters of their own pieces
+               (pieces.py): all patterns, or one in five beside those of other features
     malformed  faulty patterns of the features that are asked for, and wrong words
     runs       loops of one item and prices of attempts (runs.py): all patterns, or one in five
-               beside those of other features; all of these but malformed come with it
+               beside those of other features
+
+All other features but malformed come with runs and with long.
 """
 import random
 
@@ -21,11 +25,14 @@ import charset
 import tree as T
 from dialect import Refused, Unknown
 from meaning import Explosion, Regex
+from pieces import Pieces
 from program import run
 from runs import Runs
 
 FEATURES = ['core', 'groups', 'stars', 'easy', 'hard', 'keep', 'replace', 'sets',
-            'tokens', 'malformed', 'runs']
+            'tokens', 'malformed', 'runs', 'long']
+# Those that come with others.
+FORMS = set(FEATURES) - {'malformed', 'runs', 'long'}
 LETTERS = 'aaaabbbccx'
 MIXED = 'abckKsSxX12_ -é\u00c9ß\u1e9e\u017f\u212aµμ日本😀Σσς\n'
 ALPHABET = sorted(set(LETTERS + MIXED + 'ABCyz0345.,;$#!()[]{}|*+?^\\/"\'<>@\t\r'))
@@ -70,14 +77,17 @@ def needs(p):
     return out
 
 
-class Gen(Runs):
+class Gen(Runs, Pieces):
     """One stream of random cases."""
 
     def __init__(self, seed, features, options):
         self.r, self.on, self.options = random.Random(seed), set(features), options
-        self.of_runs, self.alone = False, self.on == {'runs'}
-        if self.has('runs'):
-            self.on |= set(FEATURES) - {'malformed'}
+        self.of_runs, self.of_long = False, False
+        self.alone, self.of_sets = len(self.on) == 1, self.on <= {'sets', 'tokens'}
+        if self.has('runs') or self.has('long'):
+            self.on |= FORMS
+        elif self.of_sets:
+            self.on |= FORMS - {'sets', 'tokens'}
 
     def has(self, feature):
         """Is a feature asked for?"""
@@ -92,8 +102,11 @@ class Gen(Runs):
     def pattern(self):
         """A pattern, mostly accepted."""
         self.of_runs = self.has('runs') and (self.alone or self.chance(0.2))
+        self.of_long = self.has('long') and not self.of_runs and (self.alone or self.chance(0.2))
         if self.of_runs:
             return self.run_pattern()
+        if self.of_long:
+            return self.long_pattern()
         self.groups, self.names, self.loose = 0, [], self.chance(0.3)
         self.letters = LETTERS if self.chance(0.6) else LETTERS + MIXED
         flags = ''
@@ -346,6 +359,8 @@ class Gen(Runs):
         """A haystack made of samples and noise."""
         if self.of_runs:
             return self.run_text(trees)
+        if self.of_long:
+            return self.long_text(trees)
         out = []
         for _ in range(self.r.choice((1, 1, 2, 3))):
             if self.chance(0.4):
@@ -435,14 +450,25 @@ class Gen(Runs):
             patterns.append(p)
         return patterns, trees
 
+    def accepted(self, patterns, options):
+        """The regexes of those patterns that are accepted."""
+        regexes = []
+        for it in patterns:
+            try:
+                if needs(it) <= self.on | {'core'}:
+                    regexes.append(Regex(it, options))
+            except (Refused, Unknown):
+                continue
+        return regexes
+
     def words(self):
         """The words of one case."""
         if self.has('malformed') and self.chance(0.02):
             return self.wrong_words()
-        commands = ['find', 'find']
-        if self.has('groups'):
+        commands = [] if self.of_sets else ['find', 'find']
+        if self.has('groups') and not self.of_sets:
             commands += ['captures'] * 3
-        if self.has('replace'):
+        if self.has('replace') and not self.of_sets:
             commands += ['split', 'replace', 'replace']
         if self.has('sets'):
             commands += ['set']
@@ -450,6 +476,10 @@ class Gen(Runs):
             commands += ['tokens']
         command = self.r.choice(commands)
         if command in ('set', 'tokens'):
+            if self.of_sets or self.chance(0.5):
+                members = self.accepted(self.members(), self.options)
+                text = self.text_of_members([it.tree for it in members])
+                return [command, text, *(it.pattern.text for it in members)]
             patterns, trees = self.patterns_of(self.r.choice((0, 1, 2, 3, 3, 4)))
             return [command, self.text(trees), *patterns]
         patterns, trees = self.patterns_of(1)

@@ -48,21 +48,36 @@ ODD = [b"\x80", b"\xbf", b"\xc3", b"\xe6\x97", b"\xf0\x9f\x98", b"\xc0\x80", b"\
 FAR = [2 ** 64 - 1, 2 ** 64 - 2, 2 ** 63, 2 ** 63 - 1]
 
 
-def build(name, path):
-    """Builds `fre`, `calls` or `ranges` without proof."""
+def build(name, path, constants):
+    """Builds `fre`, `calls` or `ranges` without proof, with other values of the library's constants of these names."""
+    sources = {}
+    for file in os.listdir(f"{HERE}/ranges"):
+        with open(f"{HERE}/ranges/{file}", encoding="utf-8") as text:
+            sources[f"src/{file.removesuffix('.txt')}"] = text.read()
     try:
-        if name != "ranges":
-            unproved.program(name, path)
-            return path
-        sources = {}
-        for file in os.listdir(f"{HERE}/ranges"):
-            with open(f"{HERE}/ranges/{file}", encoding="utf-8") as text:
-                sources[f"src/{file.removesuffix('.txt')}"] = text.read()
         with unproved.repository_with("ranges: fancy_regex", sources) as files:
+            for constant, value in constants.items():
+                set_constant(f"{files}/crates", constant, value)
             unproved.program(name, path, files)
     except unproved.NotBuilt as why:
         sys.exit(f"{name} was not built: {why}")
     return path
+
+
+def set_constant(crates, constant, value):
+    """Gives a constant another value in the one file of the crates that declares it."""
+    declared = re.compile(rf"^((?:pub(?:\(crate\))? )?const {constant}: \w+ = )[^;]+;", re.M)
+    found = []
+    for folder, _, names in os.walk(crates):
+        for path in (f"{folder}/{it}" for it in names if it.endswith(".rt")):
+            with open(path, encoding="utf-8") as file:
+                text = file.read()
+            if declared.search(text):
+                found.append((path, text))
+    if len(found) != 1:
+        sys.exit(f"{len(found)} files declare a constant {constant}")
+    with open(found[0][0], "w", encoding="utf-8") as file:
+        file.write(declared.sub(rf"\g<1>{value};", found[0][1]))
 
 
 # ------------------------------------------------------------------ options and inputs
@@ -253,45 +268,80 @@ def refused_names(refused):
 
 CALLS = ["find", "find_from", "captures", "names", "matches", "capture_matches", "split", "splitn", "replace", "check", "expand",
          "build", "bytes", "escape"]
+# Those that search, and where each limit is met.
+SEARCHES = ["find", "find_from", "captures", "matches", "capture_matches", "split", "splitn", "replace", "expand"]
 CALLS_OF_SETS = ["in_set", "groups_in_set", "tokens"]
 
 
 def call_case(r, makes):
     """A line for `calls`, and the items that it must answer."""
-    calls = CALLS + CALLS_OF_SETS * 2 * (makes.has("sets") or makes.has("tokens"))
+    calls = CALLS + CALLS_OF_SETS * 2 * (makes.has("sets") or makes.has("tokens")) if not makes.alone else SEARCHES
     call = r.choice(calls)
+    if call in CALLS_OF_SETS:
+        return set_case(r, makes)
     regex, letters, refused = built(r, makes)
     template = makes.template()
     if refused:
         line = " ".join((call, letters, "0", ",".join(it.encode().hex() for it in ("", template, regex))))
         return (line, refused) if call not in ("build", "bytes", "escape") else None
-    members = [regex]
-    if call in CALLS_OF_SETS:
-        for _ in range(r.choice((0, 1, 2, 3))):
-            try:
-                members.append(Regex(makes.pattern(), regex.options))
-            except (Refused, Unknown):
-                continue
-    text = makes.text([it.tree for it in members] if regex.options.meaning != "byte" else [])
+    text = makes.text([regex.tree] if regex.options.meaning != "byte" else [])
     if regex.options.bytes_mode != UNICODE and r.random() < .9:
         text = "".join(it for it in text if it.isascii())
     number = r.choice((0, 0, 1, 2, 3)) if call != "expand" else r.randrange(2)
     given = Input.of(text, start=number if call != "expand" else 0)
     if makes.has("runs") and r.random() < .5 and can_search(regex, given):
-        options = limited(r, regex, given)
-        members, letters = [Regex(it.pattern.text, options) for it in members], letters_of(options)
-    patterns = [it.pattern.text for it in members]
-    line = " ".join((call, letters, str(number), ",".join(it.encode().hex() for it in (text, template, *patterns))))
-    return line, Calls(members, text, template, number).items(call)
+        regex = Regex(regex.pattern.text, limited(r, regex, given))
+        letters = letters_of(regex.options)
+    line = " ".join((call, letters, str(number), ",".join(it.encode().hex() for it in (text, template, regex.pattern.text))))
+    return line, Calls([regex], text, template, number).items(call)
+
+
+def set_case(r, makes):
+    """A line of a call of a set for `calls`, and the items that it must answer: a set whose members have the options of the line, or
+    each its own, asked in a part of a text; some hard members have limits that they meet at a place of it."""
+    common = options_of(r)
+    members = makes.accepted(makes.members(), common)
+    if r.random() < .15:
+        members = [one for it in members for one in makes.accepted([it.pattern.text], replace(options_of(r), bytes_mode=common.bytes_mode))]
+    if not members:
+        return None
+    text = makes.text_of_members([it.tree for it in members if it.options.meaning != "byte"])
+    if common.bytes_mode != UNICODE and r.random() < .9:
+        text = "".join(it for it in text if it.isascii())
+    given = input_of(r, text.encode(), True) if r.random() < .6 else Input.of(text)
+    if r.random() < .4:
+        members = [member_limited(r, it, given) for it in members]
+    each = [letters_of(it.options) for it in members]
+    letters = ";".join(each if len(each) > 1 and len(set(each)) > 1 else each[:1]) + part_letters(given)
+    call = r.choice(CALLS_OF_SETS)
+    line = " ".join((call, letters, str(given.start), ",".join(it.encode().hex() for it in (text, "", *(it.pattern.text for it in members)))))
+    return line, Calls(members, text, "", given.start, given).items(call)
+
+
+def member_limited(r, regex, given):
+    """The regex, or one that takes at a place of the input exactly the returns or branches that it may, or one too many."""
+    places = [it for it in given.positions() if given.is_char_boundary(it)]
+    if not regex.hard or not places or r.random() < .4:
+        return regex
+    return Regex(regex.pattern.text, limited(r, regex, replace(given, start=r.choice(places), anchored=True)))
+
+
+def part_letters(given):
+    """What an input asks for, as `calls` reads it."""
+    first, last = given.range or (None, None)
+    out = "" if given.range is None else f",F{first},T{last}"
+    switches = (("A", given.anchored), ("H", not given.start_text), ("Z", not given.end_text),
+                ("G", not given.continue_from_previous_match_end))
+    return out + "".join(f",{letter}" for letter, is_set in switches if is_set)
 
 
 class Calls:
     """What `calls` answers to a line."""
 
-    def __init__(self, members, text, template, number):
+    def __init__(self, members, text, template, number, part=None):
         self.members, self.regex, self.text, self.template, self.number = members, members[0], text, template, number
         self.whole = Input.of(text)
-        self.part = Input.of(text, start=number)
+        self.part = part or Input.of(text, start=number)
 
     def items(self, call):
         """The items of the answer; None where a line has no answer."""
@@ -462,20 +512,25 @@ def of_library(asked, program):
     r = random.Random(f"library {asked.seed}")
     makes = Gen(f"library {asked.seed} {','.join(sorted(asked.features))}", asked.features, Options())
     kinds = {"ranges": (range_case, items_of), "calls": (call_case, answers_of_calls)}
+    if makes.of_sets:
+        kinds = {"calls": (set_case, answers_of_calls)}
     made = {name: [] for name in kinds}
+    given_up = 0
     while sum(map(len, made.values())) < asked.cases:
         name = min(made, key=lambda it: len(made[it]))
         try:
             case = kinds[name][0](r, makes)
         except Explosion:
+            given_up += 1
             continue
         if case:
             made[name].append(case)
     wrong = []
     for name, asked_of in made.items():
-        answers = ask(program(name), [line for line, _ in asked_of])
+        answers = ask(program(name, asked.constants), [line for line, _ in asked_of])
         for (line, wanted), answer in zip(asked_of, answers):
             got = kinds[name][1](answer)
             if not agrees(wanted, got):
                 wrong.append((f"{name}: {line}", wanted, got))
-    return wrong, ", ".join(f"{len(it)} of {name}" for name, it in made.items())
+    kinds = ", ".join(f"{len(it)} of {name}" for name, it in made.items())
+    return wrong, f"{kinds}; {given_up} more were too dear"

@@ -8,6 +8,7 @@ it tells how many branches are saved at one time.
 import sys
 import threading
 from dataclasses import dataclass, replace
+from functools import lru_cache
 
 import charset
 import tree as T
@@ -119,6 +120,7 @@ class Input:
         return i
 
 
+@lru_cache(maxsize=64)
 def decode_all(hay):
     """For each place the well-formed character that starts there: (number, length)."""
     out = []
@@ -504,6 +506,7 @@ class Regex:
     """An accepted pattern with its searches. Raises dialect.Refused."""
 
     BUDGET = 2_000_000
+    BUDGET_OF_BYTE = 20
 
     def __init__(self, text, options=None, **switches):
         self.options = options if options is not None else Options(**switches)
@@ -515,7 +518,7 @@ class Regex:
 
     def tracer(self, inp, g_at):
         """A tracer; `\\G` holds at g_at."""
-        return Tracer(self, inp, g_at, self.BUDGET)
+        return Tracer(self, inp, g_at, self.BUDGET + self.BUDGET_OF_BYTE * len(inp.hay))
 
     def stands(self, inp, i):
         """Whether a match may start or end at the place."""

@@ -12,7 +12,7 @@ SETS = ['.', '.', '\\w', '\\w', '\\d', '\\s', '\\W', '\\D', '\\S', '\\N', '\\O',
         '[\\x80-\\xFF]']
 # What is put after an item. About half makes a loop of one item, perhaps after copies of it; the others are for the contrast.
 LOOPS = ['*', '+', '{2,}', '{0,}', '*', '+', '*', '+', '*+', '++', '{2,}+', '*?', '+?', '{1,}?', '?', '??', '{2}', '{,2}', '{1,3}',
-         '{2,3}+']
+         '{2,3}+', '{1,3}?', '{,4}+', '{2,9}']
 TURNS = ['', '', '', '*', '+', '?', '*?', '+?', '??', '{2}', '{1,2}', '{,2}', '{2,}', '*+', '++', '?+']
 ASSERTIONS = ['\\b', '\\b', '\\B', '^', '^', '\\A', '\\G', '(?m:^)', '(?m:^)', '(?mR:^)', '\\<', '\\>', '\\b{start-half}',
               '\\b{end-half}', '$', '\\Z', '(?m:$)', '(?mR:$)']
@@ -51,7 +51,7 @@ class Runs:
         """Loops, and what follows them."""
         kinds = ['loop'] * 5 + ['item'] * 3 + ['front', 'twice']
         if depth > 0:
-            kinds += ['part'] * 4 + ['test'] * (self.groups > 0)
+            kinds += ['part'] * 4 + ['test']
         if self.groups:
             kinds += ['again']
         return ''.join(getattr(self, 'run_' + self.r.choice(kinds))(depth) for _ in range(self.r.choice((1, 1, 2, 2, 2, 3, 4))))
@@ -95,7 +95,8 @@ class Runs:
 
     def run_test(self, depth):
         """A conditional."""
-        return '(?(%d)%s|%s)' % (self.r.randint(1, self.groups), self.run_seq(0), self.run_seq(0))
+        test = self.r.randint(1, self.groups) if self.groups and self.chance(0.7) else '(?:%s)' % self.run_seq(0)
+        return '(?(%s)%s|%s)' % (test, self.run_seq(0), self.run_seq(0))
 
     def run_front(self, _depth):
         """What tells a price at the begin of a pattern."""
