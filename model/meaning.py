@@ -174,22 +174,25 @@ class Tracer:
     def __init__(self, regex, inp, g_at, budget):
         self.p, self.o, self.inp, self.hay = regex.pattern, regex.options, inp, inp.hay
         self.byte = self.o.meaning == 'byte'
-        self.g_at = g_at                      # where `\G` holds, or None
-        self.budget = budget
+        self.budget, self.turns = budget, 0
         self.chars = decode_all(self.hay)
         overrides = self.o.allow_input_assertion_overrides
         self.no_start = overrides and not inp.start_text
         self.no_end = overrides and not inp.end_text
-        if overrides and not inp.continue_from_previous_match_end:
-            self.g_at = None
+        self.begin(g_at)
         self.word = word_set(self.o.meaning)
         self.how = {T.Seq: self.seq, T.Alt: self.alt, T.Repeat: self.repeat,
                     T.Group: self.group, T.Atomic: self.atomic, T.Look: self.look,
                     T.Cond: self.cond}
 
+    def begin(self, g_at):
+        """A search begins: `\\G` holds at g_at, or nowhere."""
+        is_off = self.o.allow_input_assertion_overrides and not self.inp.continue_from_previous_match_end
+        self.g_at = None if is_off else g_at
+
     def spend(self):
-        """One unit of the model's own work."""
-        self.budget -= 1
+        """One unit of the model's own work, more within many turns of stars: each event goes through all of them."""
+        self.budget -= 1 + self.turns // 64
         if self.budget < 0:
             raise Explosion
 
@@ -364,7 +367,11 @@ class Tracer:
     def star(self, e, s, lim):
         """The star; a turn that ends at its own start is dropped."""
         self.spend()
-        yield from self.turn(e, s, lim, lambda ev: () if ev[0] == s[0] else self.star(e, ev, lim))
+        self.turns += 1
+        try:
+            yield from self.turn(e, s, lim, lambda ev: () if ev[0] == s[0] else self.star(e, ev, lim))
+        finally:
+            self.turns -= 1
 
     def turn(self, e, s, lim, more):
         """One more turn, or none: a lazy repeat prefers none. `more` goes on from an end of the body."""
@@ -505,8 +512,8 @@ class Tracer:
 class Regex:
     """An accepted pattern with its searches. Raises dialect.Refused."""
 
-    BUDGET = 2_000_000
-    BUDGET_OF_BYTE = 20
+    # What the model spends on a search, and for each byte more; and how often that on a list.
+    BUDGET, BUDGET_OF_BYTE, OF_LIST = 2_000_000, 40, 5
 
     def __init__(self, text, options=None, **switches):
         self.options = options if options is not None else Options(**switches)
@@ -576,10 +583,17 @@ class Regex:
             return None
         return Match(((best[2], best[0]),) + best[1][1:], p)
 
-    def search(self, inp, g_off=False, counts=None):
+    def list_tracer(self, inp):
+        """A tracer for all searches of a list."""
+        t = self.tracer(inp, None)
+        t.budget *= self.OF_LIST
+        return t
+
+    def search(self, inp, g_off=False, counts=None, tracer=None):
         """The answer of a search, or None; raises Limit."""
         counts = counts if counts is not None else Counts()
-        t = self.tracer(inp, None if g_off else inp.effective_start)
+        t = tracer or self.tracer(inp, None)
+        t.begin(None if g_off else inp.effective_start)
         for p in inp.positions():
             m = self.attempt(inp, p, t, counts)
             if m is not None:
@@ -588,29 +602,30 @@ class Regex:
 
     def matches(self, inp):
         """All matches in order, or those before a Limit, which is the last item."""
-        item, err = self._try(inp, False)
+        tracer = self.list_tracer(inp)
+        item, err = self._try(inp, False, tracer)
         s = inp.effective_start
         while item is not None:
             yield item
             e = item.end
             if item.start != item.end:
                 s = max(e, inp.limits[0])
-                item, err = self._try(replace(inp, start=e), False)
+                item, err = self._try(replace(inp, start=e), False, tracer)
                 if item is not None and item.span == (e, e):
                     a = inp.advance_position(e)
                     s = max(a, inp.limits[0])
-                    item, err = self._try(replace(inp, start=a), True)
+                    item, err = self._try(replace(inp, start=a), True, tracer)
             else:
                 a = inp.advance_position(e)
                 off = s == e
                 s = max(a, inp.limits[0])
-                item, err = self._try(replace(inp, start=a), off)
+                item, err = self._try(replace(inp, start=a), off, tracer)
         if err is not None:
             yield err
 
-    def _try(self, inp, g_off):
+    def _try(self, inp, g_off, tracer):
         try:
-            return self.search(inp, g_off), None
+            return self.search(inp, g_off, tracer=tracer), None
         except Limit as e:
             return None, e
 
@@ -695,12 +710,14 @@ class RegexSet:
     def tokens(self, inp):
         """Items (index, Match), then perhaps a Limit or ('Unmatched', place)."""
         p, end = inp.effective_start, inp.limits[1]
+        tracers = [it.list_tracer(inp) for it in self.members]
         while p < end:
             here = replace(inp, start=p, anchored=True)
             best = None
             for k, member in enumerate(self.members):
+                tracers[k].begin(p)
                 try:
-                    m = self.asked(member, here, p, member.tracer(here, p))
+                    m = self.asked(member, here, p, tracers[k])
                 except Limit as e:
                     yield e
                     return
