@@ -57,6 +57,8 @@ pub record AreCandidatesOf (members : List Regex) (c : Candidates) : Type 0 wher
   pub second : AreHolders c.width members 1 c.second
   pub third : AreHolders c.width members 2 c.third
   pub fourth : AreHolders c.width members 3 c.fourth
+  pub fifth : AreHolders c.width members 4 c.fifth
+  pub sixth : AreHolders c.width members 5 c.sixth
 
 -- A member is not asked at p: no match of it starts with the byte there; or it is easy, and none starts so many places before a byte further on.
 pub data IsPassed (r : Regex) (searched : List ℕ) (p : ℕ) : Type 0 where

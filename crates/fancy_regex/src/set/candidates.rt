@@ -2,9 +2,9 @@
 //!
 //! A set does not try each of its patterns at each position. With the set a table is made that has, for each byte, the members
 //! that may begin right before it, and those that may begin at the end of the searched range. Further tables have for each byte the
-//! members that may begin one, two and three places before it. Only the members are tried that are in the table of each place, so a
-//! position where none is costs four look-ups. Of easy members alone the further tables tell something: a hard one may be refused by
-//! an attempt that finds nothing, and is tried wherever its first byte stands.
+//! members that may begin one to five places before it. Only the members are tried that are in the table of each place, so a
+//! position where none is costs four look-ups: the last two are made where some are left. Of easy members alone the further tables
+//! tell something: a hard one may be refused by an attempt that finds nothing, and is tried wherever its first byte stands.
 //!
 //! The tables take no memory beside their own, whatever the set's size: they have one bit for each of 128 groups of neighbours. Up to
 //! 128 members each have a group of their own.
@@ -115,6 +115,7 @@ impl Groups {
     }
 
     /// The first group from a number on.
+    #[inline(always)]
     pub(crate) fn first_from(self, from: usize) -> Option<usize>
         ensures { MatchOption result (NoGroupFrom self from) (IsNextGroup self from) }
     {
@@ -138,6 +139,8 @@ pub(crate) struct Candidates {
     second: [Groups; 256],
     third: [Groups; 256],
     fourth: [Groups; 256],
+    fifth: [Groups; 256],
+    sixth: [Groups; 256],
     // how many members a group has
     width: usize,
     ghost some: { 0 < width },
@@ -145,7 +148,7 @@ pub(crate) struct Candidates {
 }
 
 impl Candidates {
-    ghost use Rattle.fancy_regex.specs.Candidates.{groups_before, AreCandidatesOf, AreOfStarters, HoldAllAt, HoldNoOthers, NoMemberBetween, IsNextMember, TellStarters};
+    ghost use Rattle.fancy_regex.specs.Candidates.{groups_before, has_group, AreCandidatesOf, AreOfStarters, HoldAllAt, HoldNoOthers, NoMemberBetween, IsNextMember, TellStarters};
 
     /// Of these members, at most 128 of which have a group of their own.
     pub(crate) fn new(members: &[Regex]) -> Candidates
@@ -166,6 +169,8 @@ impl Candidates {
             second: Groups::holders(members, width, 1),
             third: Groups::holders(members, width, 2),
             fourth: Groups::holders(members, width, 3),
+            fifth: Groups::holders(members, width, 4),
+            sixth: Groups::holders(members, width, 5),
             width,
         }
     }
@@ -230,6 +235,28 @@ impl Candidates {
             byte_at(searched, position + 2),
             byte_at(searched, position + 3),
         )
+    }
+
+    /// Those of the groups whose members may begin at a position by the fifth and the sixth byte from there on too.
+    #[inline(always)]
+    pub(crate) fn further(
+        &self,
+        groups: Groups,
+        haystack: &[u8],
+        range_end: usize,
+        position: usize,
+    ) -> Groups
+        requires inside { range_end ≤ length haystack.now }
+        requires ends { position ≤ range_end }
+        ensures held { (members : List Regex) → AreCandidatesOf members self.now
+            → HoldAllAt self.now.width members (take range_end haystack.now) position groups
+            → HoldAllAt self.now.width members (take range_end haystack.now) position result }
+        ensures only { (g : ℕ) → has_group result g ≡ true → has_group groups g ≡ true }
+    {
+        let searched = &haystack[..range_end];
+        groups
+            .narrowed(&self.fifth, byte_at(searched, position + 4))
+            .narrowed(&self.sixth, byte_at(searched, position + 5))
     }
 
     /// Whether each member has a group of its own.

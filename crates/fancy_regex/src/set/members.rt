@@ -72,6 +72,9 @@ impl RegexSet {
             if groups.is_empty() {
                 continue;
             }
+            let groups = self
+                .candidates
+                .further(groups, bytes, request.range_end, position);
             if let Some(answer) = self.answer_in(groups, 0, input, position, trials) {
                 return Some((position, answer));
             }
@@ -180,6 +183,7 @@ impl RegexSet {
 
     /// The first member from an index on that is to be asked at a position of what is searched: it is in one of the groups that may
     /// begin there, and may start with the byte there. Where each member has a group of its own, the groups tell both.
+    #[inline(always)]
     pub(crate) fn next_starter(
         &self,
         groups: Groups,
@@ -203,6 +207,7 @@ impl RegexSet {
     }
 
     /// The same, of groups that several members share.
+    #[inline(never)]
     fn next_in_groups(
         &self,
         groups: Groups,

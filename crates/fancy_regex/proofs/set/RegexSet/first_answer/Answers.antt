@@ -1,5 +1,6 @@
-use Rattle.std.proofs.Common.{ℕ, ◌+◌, ◌≤◌, length, take, rules, arith, refl, sym, ap, subst, ◌∙◌}
+use Rattle.std.proofs.Common.{◌≡◌, ℕ, ◌+◌, ◌≤◌, length, slice_get, take, rules, arith, refl, sym, ap, subst, ◌∙◌}
 use Rattle.fancy_input.specs.Requests.{effective_start}
+use Rattle.fancy_regex.specs.Candidates.{AreOfStarters}
 use Rattle.fancy_regex.specs.SetCounts.{most_steps_of_all, steps_left_in}
 use Rattle.fancy_regex.specs.Sets.{asked_of_set}
 use Rattle.fancy_regex.proofs.CandidateLemmas.{none_of_empty}
@@ -82,9 +83,12 @@ returns-in-Some-clause-grows g c = let more = c.answer_in.ensures.grows in omega
 pub answer_in-requires-clause-groups : goal.answer_in-requires-clause-groups
 answer_in-requires-clause-groups g c =
     let s = c.args.self.now in
-    rw (c.request-request.ensures.value, c.as_bytes-bytes.ensures.bytes, c.haystack-haystack.ensures) at (c.at-groups.ensures.held s.members.items s.listed)
+    rw (c.request-request.ensures.value, c.as_bytes-bytes.ensures.bytes, c.haystack-haystack.ensures) at (c.further-groups.ensures.held s.members.items s.listed (c.at-groups.ensures.held s.members.items s.listed))
 
 pub answer_in-requires-clause-only : goal.answer_in-requires-clause-only
 answer_in-requires-clause-only g c =
     let s = c.args.self.now in
-    rw (c.request-request.ensures.value, c.as_bytes-bytes.ensures.bytes, c.haystack-haystack.ensures) at (c.at-groups.ensures.only s.members.items s.told)
+    let searched = take c.request-request.result.range_end c.as_bytes-bytes.result.now in
+    let only : s.candidates.width ≡ 1 → AreOfStarters s.members.items (slice_get searched c.loop-position.position) c.further-groups.result =
+    λ apart k there. c.at-groups.ensures.only s.members.items s.told apart k (c.further-groups.ensures.only k there) in
+    rw (c.request-request.ensures.value, c.as_bytes-bytes.ensures.bytes, c.haystack-haystack.ensures) at only
