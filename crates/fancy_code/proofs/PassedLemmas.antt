@@ -6,7 +6,7 @@ use Rattle.fancy_tree.specs.declared.tree.Assertion.TheVariants.{TextStart, Line
 use Rattle.fancy_prefilter.specs.NextOpening.{LacksOpening, StartsNot, by_byte, by_start, by_line, by_opening}
 use Rattle.fancy_prefilter.specs.Prefilters.{text_in, window_in, branches_in}
 use Rattle.fancy_prefilter.specs.declared.prefilter.Opening.{Opening}
-use Rattle.fancy_prefilter.specs.declared.prefilter.Opening.TheVariants.{Untold, Text, Window, Words}
+use Rattle.fancy_prefilter.specs.declared.prefilter.Opening.TheVariants.{Untold, Text, Window, Sets, Words}
 use Rattle.fancy_code.specs.declared.code.Code.{Code}
 use Rattle.fancy_code.specs.Branches.{AreBranches}
 use Rattle.fancy_code.specs.Code.{instrs_of}
@@ -31,6 +31,7 @@ module _ (q : Query) (code : Code) (is : IsCodeOf q.sought.pattern code) (meant 
       (λ h. lacks (subst (λ (u : List ℕ). StandsBefore q.haystack q.request.range_end u p) (sym same)
       (rw meant at (opening_stands q p h))))
   none_opens (Window sets) opens told branched p le lacks = none_foretold q code is meant inside bytes sets told p le lacks
+  none_opens (Sets sets) opens told branched p le lacks = none_foretold q code is meant inside bytes sets.items told p le lacks
   none_opens (Words b) opens foretold told p le lacks = none_branched q code is meant inside bytes b told p le lacks
 
   starts_not : (p : ℕ) → p ≤ q.request.range_end → StartsNot code.prefilter q.haystack q.request.range_end p → answer_at q p ≡ None

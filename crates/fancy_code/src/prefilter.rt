@@ -16,7 +16,7 @@ use crate::code::{Code, Instr};
 use fancy_bytes::byte_set::ByteSet;
 use fancy_prefilter::items::{Sizes, add_character, add_members, has_size, is_small, size_of};
 use fancy_prefilter::prefilter::Opening;
-use fancy_prefilter::rows::{are_telling, empty_sets};
+use fancy_prefilter::rows::{are_apart, are_telling, empty_sets};
 use fancy_prefilter::scan::Scan;
 use fancy_prefilter::window::Window;
 use fancy_tree::char_set::CharSet;
@@ -25,6 +25,9 @@ use std::alloc::{AllocError, Global};
 
 /// At how many places bytes are told at most.
 const PLACES: usize = 8;
+
+/// At how many places they are told where those are too many to be followed.
+const FEWER_PLACES: usize = 3;
 
 /// How many instructions are followed one after another.
 const DEPTH: usize = 48;
@@ -279,17 +282,34 @@ pub(crate) fn sets_of(
     sets_within(alloc, code, at, places, &mut left)
 }
 
-/// The sets of the bytes that may stand at the first places of a match, made ready for scans, if they tell something.
-fn window_of(alloc: Global, code: &Code) -> Result<Option<Window>, AllocError>
+/// The sets of the bytes that may stand at so many first places of a match.
+fn sets_at_start(alloc: Global, code: &Code, places: usize) -> Result<Vec<ByteSet>, AllocError>
+    ensures { IfOk result (λ sets. AreForetold sets.items code.now) }
+{
+    let sets = sets_of(alloc, code, code.start, places)?;
+    Ok(sets)
+}
+
+/// The sets of the bytes that may stand at the first places of a match, and whether they are worth a scan: at many places if one past
+/// the first has few bytes, at fewer if besides no run of one kind of byte has a byte of each.
+fn first_sets(alloc: Global, code: &Code) -> Result<(Vec<ByteSet>, bool), AllocError>
+    ensures { IfOk result (λ told. AreForetold told.0.items code.now) }
+{
+    let sets = sets_at_start(alloc, code, PLACES)?;
+    if sets.len() > 1 {
+        let is_worth = are_telling(&sets);
+        return Ok((sets, is_worth));
+    }
+    let sets = sets_at_start(alloc, code, FEWER_PLACES)?;
+    let is_worth = are_telling(&sets) && are_apart(&sets);
+    Ok((sets, is_worth))
+}
+
+/// Sets that are told of the first places of a match, made ready for scans.
+fn window_of(alloc: Global, code: &Code, sets: Vec<ByteSet>) -> Result<Option<Window>, AllocError>
+    requires { AreForetold sets.items code.now }
     ensures { IfOk result (λ w. IfSome w (λ sets. AreForetold sets code.now)) }
 {
-    if !code.prefilter.is_worth_window() {
-        return Ok(None);
-    }
-    let sets = sets_of(alloc, code, code.start, PLACES)?;
-    if !are_telling(&sets) {
-        return Ok(None);
-    }
     let window = Window::new(alloc, sets)?;
     Ok(window)
 }
@@ -306,7 +326,15 @@ fn with_opening(alloc: Global, code: Code) -> Result<Code, AllocError>
         code.prefilter.opening = Opening::Words(branches);
         return Ok(code);
     }
-    let Some(window) = window_of(alloc, &code)? else {
+    if !code.prefilter.is_worth_window() {
+        return Ok(code);
+    }
+    let (sets, is_worth) = first_sets(alloc, &code)?;
+    if !is_worth {
+        code.prefilter.opening = Opening::Sets(sets);
+        return Ok(code);
+    }
+    let Some(window) = window_of(alloc, &code, sets)? else {
         return Ok(code);
     };
     code.prefilter.opening = Opening::Window(window);

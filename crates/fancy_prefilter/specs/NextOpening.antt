@@ -6,14 +6,15 @@ use Rattle.fancy_prefilter.specs.Windows.{StandsFrom}
 use Rattle.fancy_prefilter.specs.KeyTables.{NoneMayStand}
 use Rattle.fancy_prefilter.specs.Seen.{MayNotStart, NoneMayStart}
 use Rattle.fancy_prefilter.specs.declared.prefilter.Opening.{Opening}
-use Rattle.fancy_prefilter.specs.declared.prefilter.Opening.TheVariants.{Untold, Text, Window, Words}
+use Rattle.fancy_prefilter.specs.declared.prefilter.Opening.TheVariants.{Untold, Text, Window, Sets, Words}
 use Rattle.fancy_prefilter.specs.declared.prefilter.Prefilter.{Prefilter}
 
--- What each match opens with does not stand at p: not the text, in the window a byte of some set not, or by their table none of the alternatives.
+-- What each match opens with does not stand at p: not the text, a byte of some set not at its place, or by their table none of the alternatives.
 abbrev pub LacksOpening : Opening → List ℕ → ℕ → ℕ → Type 0
 LacksOpening Untold haystack range_end p = ⊥
 LacksOpening (Text text) haystack range_end p = ¬ StandsBefore haystack range_end text p
 LacksOpening (Window sets) haystack range_end p = ¬ StandsFrom sets haystack range_end 0 p
+LacksOpening (Sets sets) haystack range_end p = ¬ StandsFrom sets.items haystack range_end 0 p
 LacksOpening (Words b) haystack range_end p = NoneMayStand b.table haystack range_end p
 
 -- what each match opens with stands nowhere so many places before this byte

@@ -3,13 +3,14 @@ use Rattle.std.specs.Prelude.{ℕ, List, Option, Some, None}
 use Rattle.fancy_bytes.specs.Sets.{ByteFlags}
 use Rattle.fancy_prefilter.specs.declared.branches.Branches.{Branches}
 use Rattle.fancy_prefilter.specs.declared.prefilter.Opening.{Opening}
-use Rattle.fancy_prefilter.specs.declared.prefilter.Opening.TheVariants.{Untold, Text, Window, Words}
+use Rattle.fancy_prefilter.specs.declared.prefilter.Opening.TheVariants.{Untold, Text, Window, Sets, Words}
 
 -- the text that each match opens with, if that is told
 abbrev pub text_in : Opening → Option (List ℕ)
 text_in Untold = None
 text_in (Text text) = Some text
 text_in (Window sets) = None
+text_in (Sets sets) = None
 text_in (Words b) = None
 
 -- the sets of the bytes that stand at the first places of each match, if these are told
@@ -17,6 +18,7 @@ abbrev pub window_in : Opening → Option (List ByteFlags)
 window_in Untold = None
 window_in (Text text) = None
 window_in (Window sets) = Some sets
+window_in (Sets sets) = Some sets.items
 window_in (Words b) = None
 
 -- the alternatives one of which each match opens with, if these are told
@@ -24,4 +26,5 @@ abbrev pub branches_in : Opening → Option Branches
 branches_in Untold = None
 branches_in (Text text) = None
 branches_in (Window sets) = None
+branches_in (Sets sets) = None
 branches_in (Words b) = Some b

@@ -261,7 +261,9 @@ pub fn next_opening(
         return next_by_lines(prefilter, feeds, haystack, range_end, from, last);
     }
     match &prefilter.opening {
-        Opening::Untold => candidate_from(prefilter, haystack, range_end, from, last),
+        Opening::Untold | Opening::Sets(_) => candidate_from(
+            prefilter, haystack, range_end, from, last,
+        ),
         Opening::Text(text) => next_by_text(prefilter, text, haystack, range_end, from, last),
         Opening::Window(window) => {
             next_by_window(prefilter, window, haystack, range_end, from, last)

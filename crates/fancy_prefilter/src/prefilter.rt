@@ -8,8 +8,10 @@ ghost use Rattle.fancy_prefilter.specs.Prefilters.{branches_in, text_in, window_
 
 use crate::branches::Branches;
 use crate::literal::{Literal, opening_literal};
+use crate::rows;
 use crate::scan::{Scan, start_scan};
 use crate::window::Window;
+use fancy_bytes::byte_set::ByteSet;
 use fancy_tree::tree::{Meaning, Tree};
 use std::alloc::{AllocError, Global};
 
@@ -22,6 +24,8 @@ pub enum Opening {
     Text(Literal),
     /// A byte of each of these sets, at its first places.
     Window(Window),
+    /// The same, where the sets tell too little to be scanned for.
+    Sets(Vec<ByteSet>),
     /// One of these alternatives: there are many, and their first bytes tell them apart.
     Words(Branches),
 }
@@ -43,6 +47,7 @@ impl Opening {
             Opening::Untold | Opening::Words(_) => true,
             Opening::Text(text) => text.may_hold(place, byte),
             Opening::Window(window) => window.may_hold(place, byte),
+            Opening::Sets(sets) => rows::may_hold(sets, place, byte),
         }
     }
 }
@@ -113,6 +118,11 @@ impl Prefilter {
     /// Whether each match opens with a text that is told.
     pub fn has_text(&self) -> bool {
         matches!(self.opening, Opening::Text(_))
+    }
+
+    /// Whether what each match opens with is scanned for.
+    pub fn scans_for_opening(&self) -> bool {
+        !matches!(self.opening, Opening::Untold | Opening::Sets(_))
     }
 
     /// Whether each match opens with one of many alternatives that are told.

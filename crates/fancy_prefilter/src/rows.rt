@@ -1,7 +1,8 @@
-//! Rows of sets of bytes, one for each of the first places of a match, while they are made.
+//! Rows of sets of bytes, one for each of the first places of a match.
 
-ghost use Rattle.std.specs.Prelude.{◌≡◌, length};
+ghost use Rattle.std.specs.Prelude.{◌≡◌, ℕ, ◌+◌, List, false, length, slice_index};
 ghost use Rattle.fancy_prefilter.specs.Rows.{HasFrom, Wider};
+ghost use Rattle.fancy_prefilter.specs.Windows.{StandsFrom};
 
 use fancy_bytes::byte_set::ByteSet;
 use std::alloc::{AllocError, Global};
@@ -9,6 +10,9 @@ use std::alloc::{AllocError, Global};
 /// A set of bytes tells something where it has at most so many that are ASCII: most texts have the others at most places. Past ASCII it
 /// may have all, or at most so many that go on with a character: one of these stands after each byte that begins one.
 const FEW: usize = 16;
+
+/// So many bytes at most are in all sets of a row that few runs of one kind of byte have.
+const FEW_SHARED: usize = 4;
 
 /// So many sets without bytes.
 pub fn empty_sets(alloc: Global, places: usize) -> Result<Vec<ByteSet>, AllocError> {
@@ -50,6 +54,23 @@ fn count_between(set: &ByteSet, from: u8, to: u8) -> usize {
 fn is_telling(set: &ByteSet) -> bool {
     count_between(set, 0, 0x80) <= FEW
         && (count_between(set, 0x80, 0xC0) <= FEW || count_between(set, 0xC0, 0xFF) > 0)
+}
+
+/// Whether this byte may stand at a place of the row. At a place past it any byte may.
+pub fn may_hold(sets: &[ByteSet], place: usize, byte: u8) -> bool
+    ensures { result ≡ false → (haystack : List ℕ) (end p : ℕ) → slice_index haystack (p + place) ≡ byte
+        → ¬ StandsFrom sets.now haystack end 0 p }
+{
+    place >= sets.len() || sets[place].contains(byte)
+}
+
+/// Whether few bytes are in all of the sets. Else a run of such bytes, as of digits, has a byte of each set.
+pub fn are_apart(sets: &[ByteSet]) -> bool {
+    let mut shared = ByteSet::all();
+    for set in sets {
+        shared = shared.intersection(set);
+    }
+    shared.len() <= FEW_SHARED
 }
 
 /// Whether the sets tell more than the first of them alone: another has few bytes.

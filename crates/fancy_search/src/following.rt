@@ -3,7 +3,7 @@
 use fancy_alphabet::side::Tests;
 use fancy_code::code::Code;
 use fancy_prefilter::branches::WIDE;
-use fancy_prefilter::prefilter::{Opening, Prefilter};
+use fancy_prefilter::prefilter::Prefilter;
 
 /// The shortest text of ASCII characters that the automaton serves, in bytes: its steps are computed first, which takes as long as
 /// the runner takes for some hundred bytes.
@@ -43,7 +43,7 @@ fn opens_wide(code: &Code) -> bool {
 /// Whether a scan tells little of where matches begin: no text, no window and no words that they open with, and they may start
 /// with different bytes. Where it tells more, the runner makes few attempts.
 fn is_told_little(prefilter: &Prefilter) -> bool {
-    if !matches!(prefilter.opening, Opening::Untold) {
+    if prefilter.scans_for_opening() {
         return false;
     }
     match &prefilter.starts {
