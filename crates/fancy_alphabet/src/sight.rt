@@ -36,6 +36,7 @@ impl Sight {
 }
 
 /// What is read at a place, if it ends within what is searched.
+#[inline(always)]
 fn reading_at(attempt: &Attempt, place: usize) -> Option<Reading>
     ensures reading { option_map unit_read result
         ≡ unit_by (context_in attempt.now) attempt.now.last place }
@@ -71,6 +72,7 @@ pub fn ascii_at(attempt: &Attempt, place: usize) -> Option<u8>
 }
 
 /// What tests tell apart of what is seen at a place, a byte offset.
+#[inline(always)]
 pub fn sight_at(attempt: &Attempt, tests: Tests, place: usize) -> Sight
     requires within { place ≤ attempt.now.last }
     requires inside { attempt.now.last ≤ length attempt.now.haystack.now }

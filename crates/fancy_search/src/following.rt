@@ -1,9 +1,10 @@
 //! For which patterns the automaton is worth its steps.
 
 use fancy_alphabet::side::Tests;
-use fancy_code::code::Code;
+use fancy_code::code::{Code, Instr};
 use fancy_prefilter::branches::WIDE;
 use fancy_prefilter::prefilter::Prefilter;
+use fancy_tree::char_set::CharSet;
 
 /// The shortest text of ASCII characters that the automaton serves, in bytes: its steps are computed first, which takes as long as
 /// the runner takes for some hundred bytes.
@@ -14,6 +15,9 @@ const SHORT_OTHER: usize = 32_768;
 
 /// The same of code that opens with many branches, for each of which the runner takes some instructions at each position.
 const SHORT_WIDE: usize = 256;
+
+/// A set with that many ASCII characters is wide, as `[a-z]` is.
+const WIDE_SET: usize = 26;
 
 /// At how many places a text is looked at.
 const SAMPLES: usize = 8;
@@ -40,16 +44,48 @@ fn opens_wide(code: &Code) -> bool {
     true
 }
 
-/// Whether a scan tells little of where matches begin: no text, no window and no words that they open with, and they may start
-/// with different bytes. Where it tells more, the runner makes few attempts.
-fn is_told_little(prefilter: &Prefilter) -> bool {
-    if prefilter.scans_for_opening() {
-        return false;
+/// Whether a set has many ASCII characters.
+fn is_wide(set: &CharSet) -> bool {
+    let mut members = 0;
+    for character in 0..0x80u32 {
+        if set.contains(character) {
+            members += 1;
+        }
     }
+    members >= WIDE_SET
+}
+
+/// Whether a turn of some loop reads a character of a wide set, so that attempts may be long. The instructions of a turn stand after
+/// the split of its loop, up to the one that the turn begins with; other splits lead to instructions before them.
+fn has_wide_loop(code: &Code) -> bool {
+    let mut turn_end = 0;
+    for at in 0..code.len() {
+        match code.instr(at) {
+            Instr::Split(first, second) => turn_end = turn_end.max(*first).max(*second),
+            Instr::Member(set, _) => {
+                if at <= turn_end && is_wide(code.set(*set)) {
+                    return true;
+                }
+            }
+            _ => {}
+        }
+    }
+    false
+}
+
+/// Whether matches may start with different bytes.
+fn starts_differ(prefilter: &Prefilter) -> bool {
     match &prefilter.starts {
         None => true,
         Some(scan) => !scan.has_one(),
     }
+}
+
+/// Whether a scan tells little of where matches begin: no text, no window and no words that they open with, and they may start
+/// with different bytes. Where it tells more, the runner makes few attempts, unless these are long.
+fn is_told_little(code: &Code) -> bool {
+    let prefilter = &code.prefilter;
+    !prefilter.scans_for_opening() && (starts_differ(prefilter) || has_wide_loop(code))
 }
 
 /// Whether searches with the code are worth the automaton's steps. Where the first bytes of the alternatives tell them apart, the
@@ -58,7 +94,7 @@ pub(crate) fn is_worth_following(code: &Code) -> bool {
     if code.prefilter.has_words() {
         return false;
     }
-    is_told_little(&code.prefilter) || opens_wide(code)
+    is_told_little(code) || opens_wide(code)
 }
 
 /// The fewest bytes that a search alone, or the first of a list, goes over where the automaton serves it. Where the code tests

@@ -289,6 +289,7 @@ fn tested_cell(cells: &[Cell], hint: Option<usize>, row: usize, sight: Sight) ->
 }
 
 /// What is seen at a place, as the code tells it apart: where an ASCII character is read, the one that stands for its class.
+#[inline(always)]
 pub fn seen_at(attempt: &Attempt, cells: &Cells, place: usize) -> Sight
     requires within { place ≤ attempt.now.last }
     requires inside { attempt.now.last ≤ length attempt.now.haystack.now }
@@ -331,6 +332,7 @@ pub fn is_told(cells: &Cells, row: usize, before: Side, byte: u8) -> bool
 }
 
 /// The number of the step from a row on what is seen, if it is remembered.
+#[inline(always)]
 pub fn remembered(cells: &Cells, row: usize, sight: Sight) -> Option<usize>
     requires within { IsBounded cells.now }
     requires row { row < length cells.now.rows.lists.items }
