@@ -10,6 +10,7 @@ ghost use Rattle.fancy_prices.specs.Entries.{ArePassed, AreEntries, CostsWithout
 
 use crate::facts::{Before, Ending, Facts};
 use crate::free::{price_behind, price_of, tests_before};
+use crate::kinds::{Kind, kinds_of};
 use crate::price::Price;
 use fancy_bytes::byte_set::ByteSet;
 use fancy_code::code::Code;
@@ -21,9 +22,6 @@ const DEPTH: usize = 48;
 
 /// How many positions are looked at one at a time before a scan of many.
 const NEAR: usize = 8;
-
-/// The bits of all kinds.
-const ALL_KINDS: u8 = 0b1111_1111;
 
 /// The positions at which an attempt must be made, told by the byte there and what stands before it. At each other one within the
 /// searched range an attempt finds nothing, and what it costs is told: how many choices it opens, and how many it takes back.
@@ -44,23 +42,30 @@ pub struct Entries {
 struct Told {
     /// The bytes at which an attempt costs something, or may find a match, after something.
     bytes: Scan,
-    /// After what, for each byte: the bits of the kinds.
-    after: [u8; 256],
-    /// The bit of the kind of each byte.
-    kinds: [u8; 256],
-    // none where nothing is told of those attempts
-    prices: Option<Prices>,
+    /// What attempts cost by what stands before, and the byte at which they are made.
+    rows: Rows,
     // what attempts cost by the byte before the one before their position; none where it tells nothing
     behind: Option<[Option<Price>; 256]>,
 }
 
-/// What attempts cost, by what stands before and the byte at which they are made.
+/// What attempts cost, by the byte at which they are made.
 #[derive(Drop)]
-struct Prices {
-    /// The kind of each byte.
-    kinds: [Before; 256],
-    /// For each kind of what stands before, by its number, and each byte.
-    rows: [[Option<Price>; 256]; 8],
+struct Row {
+    prices: [Option<Price>; 256],
+    /// At which bytes one costs something, or may find a match.
+    costly: [bool; 256],
+    ghost free: { IsCostlyIn prices costly },
+}
+
+/// What attempts cost, by what stands before and by the byte at which they are made.
+#[derive(Drop)]
+struct Rows {
+    /// The first serves at the text's start.
+    rows: Vec<Row>,
+    /// Which one serves after each byte.
+    numbers: [u8; 256],
+    ghost some: { 0 < vec_len rows },
+    ghost numbered: { (b : ℕ) → slice_index numbers b < vec_len rows },
 }
 
 /// Whether a byte continues a character of UTF-8.
@@ -72,7 +77,7 @@ pub(crate) fn is_continuation(byte: u8) -> bool
 
 /// What an attempt costs that is made at the byte, if it is told that it finds nothing. Of one within a character nothing is told but
 /// that it costs nothing, since in text none is made there.
-fn price_at(code: &Code, here: u8, before: Option<Before>) -> Option<Price>
+fn price_at(code: &Code, here: u8, before: Option<Before<'_>>) -> Option<Price>
     ensures { TellsByte code.now before here result }
 {
     let price = price_of(code, code.start, Facts { here, before }, DEPTH)?;
@@ -93,38 +98,198 @@ fn plain_prices(code: &Code) -> [Option<Price>; 256]
     row
 }
 
-/// The same after what is of this kind. It is asked only of bytes of which nothing is told without that.
-fn prices_after(code: &Code, plain: &[Option<Price>; 256], kind: Before) -> [Option<Price>; 256]
+/// The same where this stands before. It is asked only of bytes of which nothing is told without that.
+fn prices_after(
+    code: &Code,
+    plain: &[Option<Price>; 256],
+    before: Before<'_>,
+) -> [Option<Price>; 256]
     requires { TellsRow code.now None plain.now }
-    ensures { TellsRow code.now (Some kind) result }
+    ensures { TellsRow code.now (Some before) result }
 {
     let mut row = *plain;
     for byte in 0..256u32 {
         if row[byte as usize].is_none() {
-            row[byte as usize] = price_at(code, byte as u8, Some(kind));
+            row[byte as usize] = price_at(code, byte as u8, Some(before));
         }
     }
     row
 }
 
-/// The same after what is of each kind. Each kind is asked for alone only where the code may test what stands before.
-fn rows_of(code: &Code) -> [[Option<Price>; 256]; 8]
-    ensures { TellsKinds code.now result }
+/// Whether an attempt costs nothing.
+fn is_free(price: Option<Price>) -> bool
+    ensures { result ≡ true → IsFree price }
 {
-    let plain = plain_prices(code);
-    if !tests_before(code, code.start, DEPTH) {
-        return [plain; 8];
+    match price {
+        Some(price) => price.is_nothing(),
+        None => false,
     }
-    [
-        prices_after(code, &plain, Before::Nothing),
-        prices_after(code, &plain, Before::LineFeed),
-        prices_after(code, &plain, Before::CarriageReturn),
-        prices_after(code, &plain, Before::Letter),
-        prices_after(code, &plain, Before::Digit),
-        prices_after(code, &plain, Before::Blank),
-        prices_after(code, &plain, Before::Other),
-        prices_after(code, &plain, Before::Wide),
-    ]
+}
+
+/// At which bytes an attempt costs something, or may find a match.
+fn costly_of(prices: &[Option<Price>; 256]) -> [bool; 256]
+    ensures { IsCostlyIn prices.now result }
+{
+    let mut costly = [true; 256];
+    for byte in 0..256u32 {
+        costly[byte as usize] = !is_free(prices[byte as usize]);
+    }
+    costly
+}
+
+impl Row {
+    fn new(prices: [Option<Price>; 256]) -> Row
+        ensures { result.prices ≡ prices }
+    {
+        let costly = costly_of(&prices);
+        Row { prices, costly }
+    }
+
+    /// Whether something is told. No answer rests on it.
+    fn tells_some(&self) -> bool {
+        tells_some(&self.prices)
+    }
+}
+
+/// The numbers, with this one for each byte of the set.
+fn numbered(numbers: [u8; 256], bytes: &ByteSet, number: u8) -> [u8; 256]
+    ensures { (b : ℕ) → b < 256 → slice_index result b
+        ≡ (if member bytes.now b then number else (slice_index numbers b)) }
+{
+    let mut result = numbers;
+    for byte in 0..256u32 {
+        if bytes.contains(byte as u8) {
+            result[byte as usize] = number;
+        }
+    }
+    result
+}
+
+impl Rows {
+    /// The same after anything.
+    fn alike(alloc: Global, code: &Code, plain: [Option<Price>; 256]) -> Result<Rows, AllocError>
+        requires { TellsRow code.now None plain }
+        ensures { IfOk result (TellRows code.now) }
+    {
+        let mut rows = Vec::new(alloc);
+        rows.push(Row::new(plain))?;
+        Ok(Rows {
+            rows,
+            numbers: [0; 256],
+        })
+    }
+
+    /// By what the code tests before a position.
+    fn apart(
+        alloc: Global,
+        code: &Code,
+        plain: &[Option<Price>; 256],
+    ) -> Result<Rows, AllocError>
+        requires { TellsRow code.now None plain.now }
+        ensures { IfOk result (TellRows code.now) }
+    {
+        let mut rows = Vec::new(alloc);
+        rows.push(Row::new(prices_after(code, plain, Before::Nothing)))?;
+        rows.push(Row::new(*plain))?;
+        let mut rows = Rows {
+            rows,
+            numbers: [1; 256],
+        };
+        for kind in kinds_of(alloc, code)? {
+            rows = rows.with(code, plain, &kind)?;
+        }
+        Ok(rows)
+    }
+
+    /// With a row of its own after each byte of a kind, if there are few so far.
+    fn with(
+        self,
+        code: &Code,
+        plain: &[Option<Price>; 256],
+        kind: &Kind,
+    ) -> Result<Rows, AllocError>
+        requires plain { TellsRow code.now None plain.now }
+        requires others { TellRows code.now self }
+        ensures { IfOk result (TellRows code.now) }
+    {
+        let Rows { rows, numbers } = self;
+        let mut rows = rows;
+        let number = rows.len();
+        if number > u8::MAX as usize {
+            return Ok(Rows { rows, numbers });
+        }
+        rows.push(Row::new(prices_after(code, plain, Before::Among(kind))))?;
+        let numbers = numbered(numbers, &kind.bytes, number as u8);
+        Ok(Rows { rows, numbers })
+    }
+
+    /// Those of attempts with the code. Rows are told apart only where it may test what stands before.
+    fn of(alloc: Global, code: &Code) -> Result<Rows, AllocError>
+        ensures { IfOk result (TellRows code.now) }
+    {
+        let plain = plain_prices(code);
+        if !tests_before(code, code.start, DEPTH) {
+            return Rows::alike(alloc, code, plain);
+        }
+        Rows::apart(alloc, code, &plain)
+    }
+
+    /// The row that serves after a byte.
+    #[inline]
+    fn after(&self, byte: u8) -> &Row
+        ensures { slice_get self.now.rows.items (slice_index self.now.numbers byte) ≡ Some result.now }
+    {
+        &self.rows[self.numbers[byte as usize] as usize]
+    }
+
+    /// The row that serves at a place.
+    #[inline]
+    fn before(&self, haystack: &[u8], place: usize) -> &Row
+        requires { place ≤ length haystack.now }
+        ensures { row_of self.now (byte_before haystack.now place) ≡ Some result.now }
+    {
+        if place == 0 {
+            return &self.rows[0];
+        }
+        self.after(haystack[place - 1])
+    }
+
+    /// Whether an attempt at the byte costs something, or may find a match, after something.
+    fn is_costly_at(&self, here: u8) -> bool
+        ensures { result ≡ false → (k : ℕ) → k < vec_len self.now.rows
+            → costly_in (slice_get self.now.rows.items k) here ≡ false }
+    {
+        for row in &self.rows {
+            if row.costly[here as usize] {
+                return true;
+            }
+        }
+        false
+    }
+
+    /// The bytes at which one does.
+    fn costly_bytes(&self) -> ByteSet
+        ensures { (b : ℕ) → b < 256 → member result b ≡ false → (k : ℕ) → k < vec_len self.now.rows
+            → costly_in (slice_get self.now.rows.items k) b ≡ false }
+    {
+        let mut bytes = ByteSet::new();
+        for byte in 0..256u32 {
+            if self.is_costly_at(byte as u8) {
+                bytes.insert(byte as u8);
+            }
+        }
+        bytes
+    }
+
+    /// Whether something is told. No answer rests on it.
+    fn tell_some(&self) -> bool {
+        for row in &self.rows {
+            if row.tells_some() {
+                return true;
+            }
+        }
+        false
+    }
 }
 
 /// What an attempt costs by the byte before the one before its position.
@@ -159,112 +324,6 @@ fn prices_behind(code: &Code) -> Option<[Option<Price>; 256]>
     Some(row)
 }
 
-/// The bit of this kind where an attempt at the byte costs something after it, or may find a match; else no bit.
-fn costly_after(rows: &[[Option<Price>; 256]; 8], here: u8, kind: Before) -> u8
-    ensures { CostsWithout rows.now here result kind }
-{
-    match rows[kind.number()][here as usize] {
-        Some(price) => if price.is_nothing() { 0 } else { kind.bit() },
-        None => kind.bit(),
-    }
-}
-
-/// The bits of the kinds after which it does.
-fn costly_kinds(rows: &[[Option<Price>; 256]; 8], here: u8) -> u8
-    ensures { (kind : Before) → CostsWithout rows.now here result kind }
-{
-    let at_start = costly_after(rows, here, Before::Nothing);
-    let line_feed = costly_after(rows, here, Before::LineFeed);
-    let carriage_return = costly_after(rows, here, Before::CarriageReturn);
-    let letter = costly_after(rows, here, Before::Letter);
-    let digit = costly_after(rows, here, Before::Digit);
-    let blank = costly_after(rows, here, Before::Blank);
-    let other = costly_after(rows, here, Before::Other);
-    let wide = costly_after(rows, here, Before::Wide);
-    at_start | line_feed | carriage_return | letter | digit | blank | other | wide
-}
-
-/// The same for each byte.
-fn costly_kinds_of_each(rows: &[[Option<Price>; 256]; 8]) -> [u8; 256]
-    ensures { (b : ℕ) → b < 256 → (kind : Before) → CostsWithout rows.now b (slice_index result b) kind }
-{
-    let mut kinds = [0; 256];
-    for byte in 0..256u32 {
-        kinds[byte as usize] = costly_kinds(rows, byte as u8);
-    }
-    kinds
-}
-
-/// The bit of the kind of each byte.
-fn bit_of_each() -> [u8; 256]
-    ensures { (b : ℕ) → b < 256 → HasKind (slice_index result b) (Some b) }
-{
-    let mut kinds = [0; 256];
-    for byte in 0..256u32 {
-        kinds[byte as usize] = Before::of(byte as u8).bit();
-    }
-    kinds
-}
-
-/// The kind of each byte.
-fn kind_of_each() -> [Before; 256]
-    ensures { HaveKinds result }
-{
-    let mut kinds = [Before::Nothing; 256];
-    for byte in 0..256u32 {
-        kinds[byte as usize] = Before::of(byte as u8);
-    }
-    kinds
-}
-
-/// Whether some attempt is told that costs something. No answer rests on it.
-fn are_priced(rows: &[[Option<Price>; 256]; 8]) -> bool {
-    for row in rows {
-        for price in row {
-            if let Some(price) = price {
-                if !price.is_nothing() {
-                    return true;
-                }
-            }
-        }
-    }
-    false
-}
-
-/// The prices, if there are some beside nothing.
-fn prices_in(rows: [[Option<Price>; 256]; 8]) -> Option<Prices>
-    ensures { IfSome result (λ p. HaveKinds p.kinds × (p.rows ≡ rows)) }
-{
-    if !are_priced(&rows) {
-        return None;
-    }
-    let kinds = kind_of_each();
-    Some(Prices { kinds, rows })
-}
-
-/// Whether each byte has the bits of all kinds. No answer rests on it.
-fn are_full(after: &[u8; 256]) -> bool {
-    for byte in 0..256u32 {
-        if after[byte as usize] != ALL_KINDS {
-            return false;
-        }
-    }
-    true
-}
-
-/// The bytes that have a bit.
-fn bytes_with_some(after: &[u8; 256]) -> ByteSet
-    ensures { (b : ℕ) → b < 256 → member result b ≡ false → slice_index after.now b ≡ 0 }
-{
-    let mut bytes = ByteSet::new();
-    for byte in 0..256u32 {
-        if after[byte as usize] != 0 {
-            bytes.insert(byte as u8);
-        }
-    }
-    bytes
-}
-
 impl Told {
     /// What an attempt costs at a place, if the byte before the one before it tells that. It is told of no place within a character.
     #[inline]
@@ -288,34 +347,20 @@ impl Told {
         requires { place < length haystack.now }
         ensures { IfSome result (IsToldOf (is_told (Some self.now)) haystack.now place) }
     {
-        if let Some(prices) = &self.prices {
-            if let Some(price) = prices.at(haystack, place) {
-                return Some(price);
-            }
-        }
-        self.price_behind(haystack, place)
-    }
-
-    /// The bit of the kind of what stands before a place.
-    #[inline]
-    fn kind_before(&self, haystack: &[u8], place: usize) -> u8
-        requires { place ≤ length haystack.now }
-        ensures { result ≡ bit_before self.now.kinds (byte_before haystack.now place) }
-    {
-        if place == 0 {
-            Before::Nothing.bit()
-        } else {
-            self.kinds[haystack[place - 1] as usize]
+        let row = self.rows.before(haystack, place);
+        match row.prices[haystack[place] as usize] {
+            Some(price) => Some(price),
+            None => self.price_behind(haystack, place),
         }
     }
 
-    /// Whether an attempt costs something, or may find a match, at a place where one of the bytes stands.
+    /// Whether an attempt costs something, or may find a match, at a place.
     #[inline]
-    fn is_after(&self, haystack: &[u8], place: usize) -> bool
+    fn is_costly(&self, haystack: &[u8], place: usize) -> bool
         requires { place < length haystack.now }
-        ensures { result ≡ is_after self.now.after self.now.kinds (byte_before haystack.now place) (slice_index haystack.now place) }
+        ensures { result ≡ is_costly self.now.rows (byte_before haystack.now place) (slice_index haystack.now place) }
     {
-        self.after[haystack[place] as usize] & self.kind_before(haystack, place) != 0
+        self.rows.before(haystack, place).costly[haystack[place] as usize]
     }
 
     /// The first place, from the one on and before the other, at which an attempt may find something or costs something. They are looked
@@ -326,13 +371,13 @@ impl Told {
         requires inside { to ≤ length haystack.now }
         ensures { MatchOption result (ArePassed self.now haystack.now from to) (IsNextCostly self.now haystack.now from to) }
     {
-        let mut kind = self.kind_before(haystack, from);
+        let mut row = self.rows.before(haystack, from);
         for place in from..to {
-            let byte = haystack[place] as usize;
-            if self.after[byte] & kind != 0 {
+            let byte = haystack[place];
+            if row.costly[byte as usize] {
                 return Some(place);
             }
-            kind = self.kinds[byte];
+            row = self.rows.after(byte);
         }
         None
     }
@@ -349,7 +394,7 @@ impl Told {
             let Some(seen) = self.bytes.next_seen(haystack, place, to) else {
                 return to;
             };
-            if self.is_after(haystack, seen) {
+            if self.is_costly(haystack, seen) {
                 return seen;
             }
             place = seen + 1;
@@ -373,22 +418,6 @@ impl Told {
     }
 }
 
-impl Prices {
-    /// What an attempt costs at a place where a byte stands, if that is told.
-    #[inline]
-    fn at(&self, haystack: &[u8], place: usize) -> Option<Price>
-        requires { place < length haystack.now }
-        ensures { result ≡ price_after self.now.kinds self.now.rows (byte_before haystack.now place) (slice_index haystack.now place) }
-    {
-        let kind = if place == 0 {
-            Before::Nothing
-        } else {
-            self.kinds[haystack[place - 1] as usize]
-        };
-        self.rows[kind.number()][haystack[place] as usize]
-    }
-}
-
 impl Entries {
     /// Any position: nothing is told of the code.
     pub fn all() -> Entries
@@ -403,20 +432,15 @@ impl Entries {
     pub fn of(alloc: Global, code: &Code) -> Result<Entries, AllocError>
         ensures { IfOk result (λ entries. AreEntries (is_entry entries) code.now) }
     {
-        let rows = rows_of(code);
-        let after = costly_kinds_of_each(&rows);
-        let prices = prices_in(rows);
-        if prices.is_none() && are_full(&after) {
+        let rows = Rows::of(alloc, code)?;
+        if !rows.tell_some() {
             return Ok(Entries::all());
         }
-        let bytes = bytes_with_some(&after);
-        let kinds = bit_of_each();
+        let bytes = rows.costly_bytes();
         let behind = prices_behind(code);
         let told = Told {
             bytes: Scan::new(bytes),
-            after,
-            kinds,
-            prices,
+            rows,
             behind,
         };
         Ok(Entries {
@@ -470,7 +494,7 @@ impl Entries {
         if told.bytes.has_one() {
             return told.next_far(haystack, from, end);
         }
-        if told.is_after(haystack, from) {
+        if told.is_costly(haystack, from) {
             return from;
         }
         told.next_ahead(haystack, from + 1, end)

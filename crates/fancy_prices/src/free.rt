@@ -102,7 +102,7 @@ pub(crate) fn tests_before(code: &Code, at: usize, deep: usize) -> bool {
 }
 
 /// Whether the code has `Match` there.
-fn is_match(code: &Code, at: usize) -> bool
+pub(crate) fn is_match(code: &Code, at: usize) -> bool
     ensures { result ≡ true → instr_at (instrs_of code.now) at ≡ Match }
 {
     if at >= code.len() {
@@ -115,17 +115,14 @@ fn is_match(code: &Code, at: usize) -> bool
 }
 
 /// Whether an item of a set may end with a byte of this kind.
-fn may_end_member(kind: Before, set: &CharSet) -> bool
+fn may_end_member(kind: Before<'_>, set: &CharSet) -> bool
     ensures { result ≡ false → (c : ℕ) → has (edges_in set.now) c ≡ true → EndsOtherwise kind c }
 {
     if kind.is_wide() && !is_ascii(set.edges()) {
         return true;
     }
-    if !kind.is_ascii() {
-        return false;
-    }
-    for byte in kind.low_start()..kind.low_end() {
-        if set.contains(byte) && kind.may_be(byte as u8) {
+    for byte in 0..0x80u32 {
+        if kind.may_be(byte as u8) && set.contains(byte) {
             return true;
         }
     }
@@ -147,7 +144,7 @@ fn reads_low(code: &Code, at: usize) -> bool
 
 /// Whether a way that reads a character and goes on at `next` stops at no place before which the text ends so: it stops behind the
 /// character, or one ASCII character later.
-fn ends_otherwise(code: &Code, character: char, next: usize, ending: Ending) -> bool
+fn ends_otherwise(code: &Code, character: char, next: usize, ending: Ending<'_>) -> bool
     ensures { result ≡ true → (at : ℕ) → instr_at (instrs_of code.now) at ≡ Character character next
         → StopsNeverBehind (instrs_of code.now) ending 0 0 at }
 {
@@ -158,7 +155,7 @@ fn ends_otherwise(code: &Code, character: char, next: usize, ending: Ending) -> 
 }
 
 /// The same for a way that reads an item of a set, where the kind of the last byte is told.
-fn member_ends_otherwise(code: &Code, set: &CharSet, next: usize, ending: Ending) -> bool
+fn member_ends_otherwise(code: &Code, set: &CharSet, next: usize, ending: Ending<'_>) -> bool
     ensures { result ≡ true → (at : ℕ) → instr_at (instrs_of code.now) at ≡ Member (edges_in set.now) next
         → StopsNeverBehind (instrs_of code.now) ending 0 0 at }
 {
@@ -171,7 +168,7 @@ fn member_ends_otherwise(code: &Code, set: &CharSet, next: usize, ending: Ending
 /// What the code from an instruction on costs where it stops at no place before which the text ends so, since the items of each way
 /// cannot. `None` where that is not told: the code is not followed so deep, or they may.
 #[cycle(never)]
-fn stops_never_behind(code: &Code, at: usize, ending: Ending, deep: usize) -> Option<Price>
+fn stops_never_behind(code: &Code, at: usize, ending: Ending<'_>, deep: usize) -> Option<Price>
     ensures { IfSome result (λ p. StopsNeverBehind (instrs_of code.now) ending p.marks p.returns at) }
 {
     if at >= code.len() || deep == 0 {
@@ -202,7 +199,7 @@ fn stops_never_behind(code: &Code, at: usize, ending: Ending, deep: usize) -> Op
 
 /// What an attempt costs that looks behind its position first, where the text before that ends so and what it looks for does not stand
 /// there. `None` where that is not told.
-pub(crate) fn price_behind(code: &Code, ending: Ending, deep: usize) -> Option<Price>
+pub(crate) fn price_behind(code: &Code, ending: Ending<'_>, deep: usize) -> Option<Price>
     ensures { IfSome result (λ p. DiesBehind (instrs_of code.now) ending p.marks p.returns code.now.start) }
 {
     if code.start >= code.len() {
@@ -215,13 +212,13 @@ pub(crate) fn price_behind(code: &Code, ending: Ending, deep: usize) -> Option<P
 }
 
 /// Whether each byte of this kind is ASCII, and by itself an item of the set.
-fn is_each_member(kind: Before, set: &CharSet) -> bool
+fn is_each_member(kind: Before<'_>, set: &CharSet) -> bool
     ensures { result ≡ true → IsAlways kind (λ b. nat_lt b 128 && has (edges_in set.now) b) }
 {
-    if !kind.is_ascii() {
+    if !kind.is_byte() || kind.is_wide() {
         return false;
     }
-    for byte in kind.low_start()..kind.low_end() {
+    for byte in 0..0x80u32 {
         if kind.may_be(byte as u8) && !set.contains(byte) {
             return false;
         }
@@ -230,7 +227,7 @@ fn is_each_member(kind: Before, set: &CharSet) -> bool
 }
 
 /// Whether the code reads an item of a set and stops, and each byte of this kind is such an item.
-fn reads_each(code: &Code, at: usize, kind: Before) -> bool
+fn reads_each(code: &Code, at: usize, kind: Before<'_>) -> bool
     ensures { result ≡ true → ReadsEach (instrs_of code.now) kind at }
 {
     if at >= code.len() {
@@ -245,7 +242,7 @@ fn reads_each(code: &Code, at: usize, kind: Before) -> bool
 }
 
 /// Whether the code goes back over one item and finds it, behind each byte of this kind.
-fn finds_behind(code: &Code, at: usize, kind: Before) -> bool
+fn finds_behind(code: &Code, at: usize, kind: Before<'_>) -> bool
     ensures { result ≡ true → FindsBehind (instrs_of code.now) kind at }
 {
     if at >= code.len() {
@@ -258,7 +255,7 @@ fn finds_behind(code: &Code, at: usize, kind: Before) -> bool
 }
 
 /// Whether a negated look-around is told to find its body.
-fn is_denied(code: &Code, behind: bool, body: usize, facts: Facts) -> bool
+fn is_denied(code: &Code, behind: bool, body: usize, facts: Facts<'_>) -> bool
     ensures { result ≡ true → IsDenied (instrs_of code.now) behind facts body }
 {
     let Some(kind) = facts.before else {
@@ -269,7 +266,7 @@ fn is_denied(code: &Code, behind: bool, body: usize, facts: Facts) -> bool
 
 /// What the body of a look-around costs where it finds nothing. `None` where that is not told.
 #[cycle(price)]
-fn price_of_body(code: &Code, behind: bool, body: usize, facts: Facts, deep: usize) -> Option<Price>
+fn price_of_body(code: &Code, behind: bool, body: usize, facts: Facts<'_>, deep: usize) -> Option<Price>
     ensures { IfSome result (λ p. FindsNone (instrs_of code.now) code.now.meaning behind facts p.marks p.returns body) }
 {
     if deep == 0 {
@@ -293,7 +290,7 @@ fn price_of_look(
     behind: bool,
     body: usize,
     next: usize,
-    facts: Facts,
+    facts: Facts<'_>,
     deep: usize,
 ) -> Option<Price>
     ensures { IfSome result (λ p. (at : ℕ) → instr_at (instrs_of code.now) at ≡ Look behind body next
@@ -315,7 +312,7 @@ fn price_of_look(
 /// What the code from an instruction on costs where the facts hold and it dies. `None` where it is not told that it does: the code is
 /// not followed so deep, or it costs too much.
 #[cycle(price)]
-pub(crate) fn price_of(code: &Code, at: usize, facts: Facts, deep: usize) -> Option<Price>
+pub(crate) fn price_of(code: &Code, at: usize, facts: Facts<'_>, deep: usize) -> Option<Price>
     ensures { IfSome result (λ p. Dies (instrs_of code.now) code.now.meaning facts p.marks p.returns at) }
 {
     if at >= code.len() {
@@ -358,7 +355,7 @@ pub(crate) fn price_of(code: &Code, at: usize, facts: Facts, deep: usize) -> Opt
 }
 
 /// Whether no item that the instruction reads begins with the byte that stands there.
-fn begins_otherwise(code: &Code, at: usize, facts: Facts) -> bool
+fn begins_otherwise(code: &Code, at: usize, facts: Facts<'_>) -> bool
     requires { at < code_len code.now }
     ensures { result ≡ true → Dies (instrs_of code.now) code.now.meaning facts 0 0 at }
 {
@@ -374,7 +371,7 @@ fn begins_otherwise(code: &Code, at: usize, facts: Facts) -> bool
 
 /// Whether the code from an instruction on dies where the facts hold, opens no choice and takes none back. It is not told where the
 /// code is not followed so deep.
-pub(crate) fn is_free(code: &Code, at: usize, facts: Facts, deep: usize) -> bool
+pub(crate) fn is_free(code: &Code, at: usize, facts: Facts<'_>, deep: usize) -> bool
     ensures { result ≡ true → Dies (instrs_of code.now) code.now.meaning facts 0 0 at }
 {
     match price_of(code, at, facts, deep) {

@@ -7,6 +7,7 @@ pub mod entries;
 mod facts;
 mod free;
 pub mod front;
+mod kinds;
 pub mod price;
 pub mod prices;
 pub mod splits;
