@@ -1,10 +1,9 @@
 //! What is told where an attempt stands: the byte there, and what stands before it.
 
-ghost use Rattle.std.specs.Prelude.{◌≡◌, ℕ, ◌<◌, ◌≤◌, true, false, not, ◌||◌, nat_lt, Some};
+ghost use Rattle.std.specs.Prelude.{◌≡◌, ℕ, ◌≤◌, ◌==◌, ◌||◌, true, false, not, Some};
 ghost use Rattle.fancy_input.specs.Lines.{is_line_feed, is_carriage_return};
-ghost use Rattle.unicode.specs.Perl.{is_word_byte};
 ghost use Rattle.fancy_prices.specs.Prices.{EndsNotWith, EndsOtherwise};
-ghost use Rattle.fancy_prices.specs.Facts.{FailsWith, HoldsWith, IsAlways, IsOfKind, TellsBefore, TellsHere, bit_of, is_blank, number_of};
+ghost use Rattle.fancy_prices.specs.Facts.{FailsWith, HoldsWith, IsAlways, IsOfKind, TellsBefore, TellsHere, TellsWord};
 
 use crate::kinds::{Kind, is_word};
 use fancy_tree::tree::{Assertion, Meaning};
@@ -50,21 +49,31 @@ pub(crate) fn may_end_with(character: char, byte: u8) -> bool
 impl Before<'_> {
     /// Whether a byte stands before.
     pub(crate) fn is_byte(self) -> bool
-        ensures { result ≡ true → IsAlways self (λ _. true) }
+        ensures { result ≡ true → IsAlways self.entry (λ _. true) }
     {
         matches!(self, Before::Among(_))
     }
 
     /// Whether a byte stands before, and is not this one.
     fn is_other_than(self, byte: u8) -> bool
-        ensures { result ≡ true → IsAlways self (λ b. not (b == byte)) }
+        ensures { result ≡ true → IsAlways self.entry (λ b. not (b == byte)) }
     {
         self.is_byte() && !self.may_be(byte)
     }
 
+    /// Whether a byte stands before, and is neither a line feed nor a carriage return.
+    fn is_in_line(self) -> bool
+        ensures { result ≡ true → IsAlways self.entry (λ b. not (is_line_feed (Some b) || is_carriage_return (Some b))) }
+    {
+        if self.is_other_than(b'\n') {
+            return self.is_other_than(b'\r');
+        }
+        false
+    }
+
     /// Whether a byte may stand before.
     pub(crate) fn may_be(self, byte: u8) -> bool
-        ensures { result ≡ false → IsOfKind self (Some byte) → ⊥ }
+        ensures { result ≡ false → IsOfKind self.entry (Some byte) → ⊥ }
     {
         match self {
             Before::Nothing => false,
@@ -74,7 +83,7 @@ impl Before<'_> {
 
     /// Whether a byte past ASCII may stand before.
     pub(crate) fn is_wide(self) -> bool
-        ensures { result ≡ false → (b : ℕ) → 128 ≤ b → IsOfKind self (Some b) → ⊥ }
+        ensures { result ≡ false → (b : ℕ) → 128 ≤ b → IsOfKind self.entry (Some b) → ⊥ }
     {
         match self {
             Before::Nothing => false,
@@ -84,7 +93,7 @@ impl Before<'_> {
 
     /// Whether a character may end with the byte that stands before.
     pub(crate) fn may_end(self, character: char) -> bool
-        ensures { result ≡ false → EndsOtherwise self character }
+        ensures { result ≡ false → EndsOtherwise self.entry character }
     {
         let code = character as u32;
         if code < 0x80 {
@@ -95,7 +104,7 @@ impl Before<'_> {
 
     /// Whether a word character stands before. `None` where that is not told.
     fn is_word(self) -> Option<bool>
-        ensures { TellsWord self result }
+        ensures { TellsWord self.entry result }
     {
         match self {
             Before::Nothing => Some(false),
@@ -107,14 +116,14 @@ impl Before<'_> {
 impl Facts<'_> {
     /// Whether a word character stands before. `None` where that is not told.
     fn is_word_before(self) -> Option<bool>
-        ensures { TellsBefore self result }
+        ensures { TellsBefore self.entry result }
     {
         self.before?.is_word()
     }
 
     /// Whether a word character begins there. `None` where that is not told.
     fn is_word_here(self) -> Option<bool>
-        ensures { TellsHere self result }
+        ensures { TellsHere self.entry result }
     {
         if self.here < 0x80 {
             return Some(is_word(self.here));
@@ -124,14 +133,14 @@ impl Facts<'_> {
 
     /// Whether an assertion fails. It is not told of each that does.
     pub(crate) fn fails(self, assertion: Assertion) -> bool
-        ensures { result ≡ true → FailsWith assertion self }
+        ensures { result ≡ true → FailsWith assertion self.entry }
     {
         self.fails_by_start(assertion) || self.fails_by_words(assertion)
     }
 
     /// Whether an assertion of a word's boundary holds. It is not told of each that does.
     pub(crate) fn holds(self, assertion: Assertion) -> bool
-        ensures { result ≡ true → HoldsWith assertion self }
+        ensures { result ≡ true → HoldsWith assertion self.entry }
     {
         match assertion {
             Assertion::WordBoundary => self.fails(Assertion::NotWordBoundary),
@@ -142,7 +151,7 @@ impl Facts<'_> {
 
     /// Whether an assertion of the text's start, or of a line's start, fails.
     fn fails_by_start(self, assertion: Assertion) -> bool
-        ensures { result ≡ true → FailsWith assertion self }
+        ensures { result ≡ true → FailsWith assertion self.entry }
     {
         let Some(before) = self.before else {
             return false;
@@ -150,14 +159,14 @@ impl Facts<'_> {
         match assertion {
             Assertion::TextStart => before.is_byte(),
             Assertion::LineStart => before.is_other_than(b'\n'),
-            Assertion::LineStartCrlf => before.is_other_than(b'\n') && before.is_other_than(b'\r'),
+            Assertion::LineStartCrlf => before.is_in_line(),
             _ => false,
         }
     }
 
     /// Whether an assertion of words fails.
     fn fails_by_words(self, assertion: Assertion) -> bool
-        ensures { result ≡ true → FailsWith assertion self }
+        ensures { result ≡ true → FailsWith assertion self.entry }
     {
         let (Some(before), Some(here)) = (self.is_word_before(), self.is_word_here()) else {
             return false;

@@ -116,7 +116,7 @@ pub(crate) fn is_match(code: &Code, at: usize) -> bool
 
 /// Whether an item of a set may end with a byte of this kind.
 fn may_end_member(kind: Before<'_>, set: &CharSet) -> bool
-    ensures { result ≡ false → (c : ℕ) → has (edges_in set.now) c ≡ true → EndsOtherwise kind c }
+    ensures { result ≡ false → (c : ℕ) → has (edges_in set.now) c ≡ true → EndsOtherwise kind.entry c }
 {
     if kind.is_wide() && !is_ascii(set.edges()) {
         return true;
@@ -146,7 +146,7 @@ fn reads_low(code: &Code, at: usize) -> bool
 /// character, or one ASCII character later.
 fn ends_otherwise(code: &Code, character: char, next: usize, ending: Ending<'_>) -> bool
     ensures { result ≡ true → (at : ℕ) → instr_at (instrs_of code.now) at ≡ Character character next
-        → StopsNeverBehind (instrs_of code.now) ending 0 0 at }
+        → StopsNeverBehind (instrs_of code.now) ending.entry 0 0 at }
 {
     match ending {
         Ending::Last(kind) => is_match(code, next) && !kind.may_end(character),
@@ -157,7 +157,7 @@ fn ends_otherwise(code: &Code, character: char, next: usize, ending: Ending<'_>)
 /// The same for a way that reads an item of a set, where the kind of the last byte is told.
 fn member_ends_otherwise(code: &Code, set: &CharSet, next: usize, ending: Ending<'_>) -> bool
     ensures { result ≡ true → (at : ℕ) → instr_at (instrs_of code.now) at ≡ Member (edges_in set.now) next
-        → StopsNeverBehind (instrs_of code.now) ending 0 0 at }
+        → StopsNeverBehind (instrs_of code.now) ending.entry 0 0 at }
 {
     match ending {
         Ending::Last(kind) => is_match(code, next) && !may_end_member(kind, set),
@@ -169,7 +169,7 @@ fn member_ends_otherwise(code: &Code, set: &CharSet, next: usize, ending: Ending
 /// cannot. `None` where that is not told: the code is not followed so deep, or they may.
 #[cycle(never)]
 fn stops_never_behind(code: &Code, at: usize, ending: Ending<'_>, deep: usize) -> Option<Price>
-    ensures { IfSome result (λ p. StopsNeverBehind (instrs_of code.now) ending p.marks p.returns at) }
+    ensures { IfSome result (λ p. StopsNeverBehind (instrs_of code.now) ending.entry p.marks p.returns at) }
 {
     if at >= code.len() || deep == 0 {
         return None;
@@ -200,7 +200,7 @@ fn stops_never_behind(code: &Code, at: usize, ending: Ending<'_>, deep: usize) -
 /// What an attempt costs that looks behind its position first, where the text before that ends so and what it looks for does not stand
 /// there. `None` where that is not told.
 pub(crate) fn price_behind(code: &Code, ending: Ending<'_>, deep: usize) -> Option<Price>
-    ensures { IfSome result (λ p. DiesBehind (instrs_of code.now) ending p.marks p.returns code.now.start) }
+    ensures { IfSome result (λ p. DiesBehind (instrs_of code.now) ending.entry p.marks p.returns code.now.start) }
 {
     if code.start >= code.len() {
         return None;
@@ -213,7 +213,7 @@ pub(crate) fn price_behind(code: &Code, ending: Ending<'_>, deep: usize) -> Opti
 
 /// Whether each byte of this kind is ASCII, and by itself an item of the set.
 fn is_each_member(kind: Before<'_>, set: &CharSet) -> bool
-    ensures { result ≡ true → IsAlways kind (λ b. nat_lt b 128 && has (edges_in set.now) b) }
+    ensures { result ≡ true → IsAlways kind.entry (λ b. nat_lt b 128 && has (edges_in set.now) b) }
 {
     if !kind.is_byte() || kind.is_wide() {
         return false;
@@ -228,7 +228,7 @@ fn is_each_member(kind: Before<'_>, set: &CharSet) -> bool
 
 /// Whether the code reads an item of a set and stops, and each byte of this kind is such an item.
 fn reads_each(code: &Code, at: usize, kind: Before<'_>) -> bool
-    ensures { result ≡ true → ReadsEach (instrs_of code.now) kind at }
+    ensures { result ≡ true → ReadsEach (instrs_of code.now) kind.entry at }
 {
     if at >= code.len() {
         return false;
@@ -243,7 +243,7 @@ fn reads_each(code: &Code, at: usize, kind: Before<'_>) -> bool
 
 /// Whether the code goes back over one item and finds it, behind each byte of this kind.
 fn finds_behind(code: &Code, at: usize, kind: Before<'_>) -> bool
-    ensures { result ≡ true → FindsBehind (instrs_of code.now) kind at }
+    ensures { result ≡ true → FindsBehind (instrs_of code.now) kind.entry at }
 {
     if at >= code.len() {
         return false;
@@ -256,7 +256,7 @@ fn finds_behind(code: &Code, at: usize, kind: Before<'_>) -> bool
 
 /// Whether a negated look-around is told to find its body.
 fn is_denied(code: &Code, behind: bool, body: usize, facts: Facts<'_>) -> bool
-    ensures { result ≡ true → IsDenied (instrs_of code.now) behind facts body }
+    ensures { result ≡ true → IsDenied (instrs_of code.now) behind facts.entry body }
 {
     let Some(kind) = facts.before else {
         return false;
@@ -266,8 +266,14 @@ fn is_denied(code: &Code, behind: bool, body: usize, facts: Facts<'_>) -> bool
 
 /// What the body of a look-around costs where it finds nothing. `None` where that is not told.
 #[cycle(price)]
-fn price_of_body(code: &Code, behind: bool, body: usize, facts: Facts<'_>, deep: usize) -> Option<Price>
-    ensures { IfSome result (λ p. FindsNone (instrs_of code.now) code.now.meaning behind facts p.marks p.returns body) }
+fn price_of_body(
+    code: &Code,
+    behind: bool,
+    body: usize,
+    facts: Facts<'_>,
+    deep: usize,
+) -> Option<Price>
+    ensures { IfSome result (λ p. FindsNone (instrs_of code.now) code.now.meaning behind facts.entry p.marks p.returns body) }
 {
     if deep == 0 {
         return None;
@@ -294,7 +300,7 @@ fn price_of_look(
     deep: usize,
 ) -> Option<Price>
     ensures { IfSome result (λ p. (at : ℕ) → instr_at (instrs_of code.now) at ≡ Look behind body next
-        → Dies (instrs_of code.now) code.now.meaning facts p.marks p.returns at) }
+        → Dies (instrs_of code.now) code.now.meaning facts.entry p.marks p.returns at) }
 {
     if deep == 0 {
         return None;
@@ -313,7 +319,7 @@ fn price_of_look(
 /// not followed so deep, or it costs too much.
 #[cycle(price)]
 pub(crate) fn price_of(code: &Code, at: usize, facts: Facts<'_>, deep: usize) -> Option<Price>
-    ensures { IfSome result (λ p. Dies (instrs_of code.now) code.now.meaning facts p.marks p.returns at) }
+    ensures { IfSome result (λ p. Dies (instrs_of code.now) code.now.meaning facts.entry p.marks p.returns at) }
 {
     if at >= code.len() {
         return Some(Price::nothing());
@@ -357,7 +363,7 @@ pub(crate) fn price_of(code: &Code, at: usize, facts: Facts<'_>, deep: usize) ->
 /// Whether no item that the instruction reads begins with the byte that stands there.
 fn begins_otherwise(code: &Code, at: usize, facts: Facts<'_>) -> bool
     requires { at < code_len code.now }
-    ensures { result ≡ true → Dies (instrs_of code.now) code.now.meaning facts 0 0 at }
+    ensures { result ≡ true → Dies (instrs_of code.now) code.now.meaning facts.entry 0 0 at }
 {
     match code.instr(at) {
         Instr::Character(character, _) => {
@@ -372,7 +378,7 @@ fn begins_otherwise(code: &Code, at: usize, facts: Facts<'_>) -> bool
 /// Whether the code from an instruction on dies where the facts hold, opens no choice and takes none back. It is not told where the
 /// code is not followed so deep.
 pub(crate) fn is_free(code: &Code, at: usize, facts: Facts<'_>, deep: usize) -> bool
-    ensures { result ≡ true → Dies (instrs_of code.now) code.now.meaning facts 0 0 at }
+    ensures { result ≡ true → Dies (instrs_of code.now) code.now.meaning facts.entry 0 0 at }
 {
     match price_of(code, at, facts, deep) {
         Some(price) => price.is_nothing(),

@@ -1,6 +1,7 @@
 //! The bytes that are told apart where they stand before a position, by what a code tests there.
 
-ghost use Rattle.std.specs.Prelude.{◌≡◌, ℕ, ◌<◌, ◌≤◌, true, false, IfSome};
+ghost use Rattle.std.specs.Prelude.{◌≡◌, ℕ, ◌<◌, true, false};
+ghost use Rattle.std.specs.Option.{ForSome};
 ghost use Rattle.unicode.specs.Perl.{is_word_byte};
 ghost use Rattle.fancy_bytes.specs.Sets.{member};
 ghost use Rattle.fancy_prices.specs.Kinds.{AreWords};
@@ -27,7 +28,7 @@ pub(crate) struct Kind {
     pub(crate) word: Option<bool>,
     /// Whether some are past ASCII.
     pub(crate) wide: bool,
-    ghost words: { IfSome word (AreWords bytes) },
+    ghost words: { ForSome word (AreWords bytes) },
     ghost low: { wide ≡ false → (b : ℕ) → b < 256 → member bytes b ≡ true → b < 128 },
 }
 
@@ -124,7 +125,8 @@ fn low_members(set: &CharSet) -> ByteSet {
 
 /// Splits the sets by whether a byte is in another one, as long as they are few.
 fn split_by(sets: &mut Vec<ByteSet>, bytes: &ByteSet) -> Result<(), AllocError> {
-    for i in 0..sets.len() {
+    let count = sets.len();
+    for i in 0..count {
         let inside = sets[i].intersection(bytes);
         let outside = sets[i].intersection(&others(bytes));
         if !inside.is_empty() && !outside.is_empty() && sets.len() < MOST {
@@ -143,10 +145,7 @@ fn split_by_byte(sets: &mut Vec<ByteSet>, byte: u8) -> Result<(), AllocError> {
 }
 
 /// The same by what an assertion tests before a position.
-fn split_by_assertion(
-    sets: &mut Vec<ByteSet>,
-    assertion: Assertion,
-) -> Result<(), AllocError> {
+fn split_by_assertion(sets: &mut Vec<ByteSet>, assertion: Assertion) -> Result<(), AllocError> {
     match assertion {
         Assertion::LineStart => split_by_byte(sets, b'\n'),
         Assertion::LineStartCrlf => {

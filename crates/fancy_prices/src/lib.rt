@@ -10,4 +10,5 @@ pub mod front;
 mod kinds;
 pub mod price;
 pub mod prices;
+mod rows;
 pub mod splits;
