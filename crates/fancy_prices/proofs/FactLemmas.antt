@@ -1,8 +1,8 @@
 -- What the byte at a place and the one before it tell of words.
-use Rattle.std.proofs.Common.{◌≡◌, ℕ, zero, suc, ◌<◌, Bool, true, false, not, ◌&&◌, ◌||◌, List, [], ◌∷◌, Option, Some, None, IfSome, refl, sym, ap, ap₂, ◌∙◌, subst, arith, true≢false, nat_lt, nat_le, ◌==◌, ne_eqb, ltb-true, slice_get}
+use Rattle.std.proofs.Common.{◌≡◌, ℕ, zero, suc, ◌<◌, Bool, true, false, not, ◌&&◌, ◌||◌, List, [], ◌∷◌, Option, Some, None, IfSome, refl, sym, ap, ap₂, ◌∙◌, subst, arith, true≢false, nat_lt, ◌==◌, ne_eqb, ltb-true, slice_get}
 use Rattle.std.specs.Bool.{beq}
-use Rattle.std.specs.Char.{is_ascii_digit}
 use Rattle.std.proofs.lemmas.Bool.Decides.{nat_tests}
+use Rattle.std.proofs.lemmas.Option.{same_Some}
 use Rattle.unicode.specs.Perl.{is_word_byte}
 use Rattle.unicode.proofs.PerlLemmas.{is_word_char-ascii}
 use Rattle.fancy_tree.specs.declared.tree.Assertion.{Assertion}
@@ -19,9 +19,11 @@ use Rattle.fancy_meaning.proofs.ReadingLemmas.{low_after, low_before}
 use Rattle.fancy_meaning.proofs.WordCharacters.{ascii_word, unicode_word}
 use Rattle.fancy_prices.specs.declared.facts.Facts.{Facts}
 use Rattle.fancy_prices.specs.declared.facts.Before.{Before}
-use Rattle.fancy_prices.specs.declared.facts.Before.TheVariants.{LineFeed, CarriageReturn, Letter, Digit, Blank, Other, Wide}
 use Rattle.fancy_prices.proofs.FlagLemmas.{both, neither, off, on}
-use Rattle.fancy_prices.specs.Facts.{FailsWith, HoldsWith, IsAlways, IsOfKind, Stands, TellsBefore, TellsHere, is_blank}
+use Rattle.std.specs.Option.{ForSome}
+use Rattle.fancy_bytes.specs.Sets.{ByteFlags, member}
+use Rattle.fancy_prices.specs.Kinds.{AreWords}
+use Rattle.fancy_prices.specs.Facts.{IsByteOf, FailsWith, HoldsWith, IsAlways, IsOfKind, Stands, TellsBefore, TellsHere}
 
 -- an ASCII byte is of a word in each meaning, or in none
 word_byte : (m : Meaning) (c : ℕ) → c < 128 → in_named_set m Word c ≡ is_word_byte c
@@ -31,15 +33,6 @@ word_byte AsciiText c low = sym (ascii_word c)
 
 word_low : (c : ℕ) → is_word_byte c ≡ true → c < 128
 word_low c h = grind (arith, nat_tests)
-
-digit_is_word : (c : ℕ) → is_ascii_digit c ≡ true → is_word_byte c ≡ true
-digit_is_word c h = grind (arith, nat_tests)
-
-blank_low : (c : ℕ) → is_blank c ≡ true → c < 128
-blank_low c h = grind (arith, nat_tests)
-
-blank_is_no_word : (c : ℕ) → is_blank c ≡ true → is_word_byte c ≡ false
-blank_is_no_word c h = grind (arith, nat_tests)
 
 -- a byte before a byte stands there as well
 get_down : (h : List ℕ) (p b : ℕ) → slice_get h (suc p) ≡ Some b → slice_get h p ≡ None → ⊥
@@ -71,33 +64,17 @@ module _ (m : Meaning) (h : List ℕ) (p : ℕ) where
   unfolding word_after
   low_word_here b low e = ap (is_word m) (low_after m h p b low e) ∙ word_byte m b low
 
-  -- a byte of these kinds
-  word_stands : (b : ℕ) → is_word_byte b ≡ true → byte_before h p ≡ Some b → word_before m h p ≡ true
-  word_stands b word is = low_word_before b (word_low b word) is ∙ word
+-- bytes that are of a word, or are not
+pub words_before : (bytes : ByteFlags) (o : Option Bool) → ForSome o (AreWords bytes)
+    → IfSome o (λ word. (m : Meaning) (h : List ℕ) (p b : ℕ) → slice_get h p ≡ Some b → IsByteOf (λ c. nat_lt c 256 && member bytes c) (byte_before h p) → word_before m h p ≡ word)
+words_before bytes None words = tt
+words_before bytes (Some word) words =
+    λ m h p b stands is.
+    (let parts = both (nat_lt is.0 256) _ is.2 in
+    let tells = words word refl is.0 (ltb-true is.0 256 parts.0) parts.1 in
+    low_word_before m h p is.0 tells.0 is.1 ∙ tells.1)
 
-  pub letter_kind : IsOfKind Letter (byte_before h p) → word_before m h p ≡ true
-  letter_kind is = word_stands is.0 (both (is_word_byte is.0) _ is.2).0 is.1
-
-  pub digit_kind : IsOfKind Digit (byte_before h p) → word_before m h p ≡ true
-  digit_kind is = word_stands is.0 (digit_is_word is.0 is.2) is.1
-
-  pub blank_kind : IsOfKind Blank (byte_before h p) → word_before m h p ≡ false
-  blank_kind is = low_word_before is.0 (blank_low is.0 is.2) is.1 ∙ blank_is_no_word is.0 is.2
-
-  pub other_kind : IsOfKind Other (byte_before h p) → word_before m h p ≡ false
-  other_kind is =
-      let parts = both (nat_lt is.0 128) _ is.2 in
-      let none = neither (is_word_byte is.0 || is_blank is.0) _ _ refl (off _ parts.1) in
-      low_word_before is.0 (ltb-true is.0 128 parts.0) is.1
-      ∙ (neither (is_word_byte is.0) _ _ refl none.0).0
-
-  pub line_feed_kind : IsOfKind LineFeed (byte_before h p) → word_before m h p ≡ false
-  line_feed_kind is = low_word_before 10 (omega arith) is
-
-  pub carriage_return_kind : IsOfKind CarriageReturn (byte_before h p) → word_before m h p ≡ false
-  carriage_return_kind is = low_word_before 13 (omega arith) is
-
--- the kind that is told
+-- what is told to stand before
 pub kind_before : (f : Facts) (k : Before) → f.before ≡ Some k → (h : List ℕ) (p : ℕ) → Stands f h p → IsOfKind k (byte_before h p)
 kind_before f k e h p stands = subst (λ (o : Option Before). IfSome o (λ kind. IsOfKind kind (byte_before h p))) e stands.before
 
@@ -164,53 +141,18 @@ module _ (f : Facts) (before here : Bool) (tells : TellsBefore f (Some before)) 
   unfolding holds
   end_half_fails e word = by_word WordEndHalf e (ap not (is ∙ word))
 
--- bytes of these kinds end no line
-pub letter_in_line : IsAlways Letter (λ b. not (is_line_feed (Some b) || is_carriage_return (Some b)))
-letter_in_line o is = (is.0, is.1, by is.0 (both (is_word_byte is.0) _ is.2).0) where
-  by : (b : ℕ) → is_word_byte b ≡ true → not (is_line_feed (Some b) || is_carriage_return (Some b)) ≡ true
-  by b e = grind (arith, nat_tests)
-
-pub digit_in_line : IsAlways Digit (λ b. not (is_line_feed (Some b) || is_carriage_return (Some b)))
-digit_in_line o is = (is.0, is.1, by is.0 is.2) where
-  by : (b : ℕ) → is_ascii_digit b ≡ true → not (is_line_feed (Some b) || is_carriage_return (Some b)) ≡ true
-  by b e = grind (arith, nat_tests)
-
-pub blank_in_line : IsAlways Blank (λ b. not (is_line_feed (Some b) || is_carriage_return (Some b)))
-blank_in_line o is = (is.0, is.1, by is.0 is.2) where
-  by : (b : ℕ) → is_blank b ≡ true → not (is_line_feed (Some b) || is_carriage_return (Some b)) ≡ true
-  by b e = grind (arith, nat_tests)
-
-pub other_in_line : IsAlways Other (λ b. not (is_line_feed (Some b) || is_carriage_return (Some b)))
-other_in_line o is =
-    let inner = is_word_byte is.0 || is_blank is.0 in
-    (is.0, is.1, by inner (is_line_feed (Some is.0) || is_carriage_return (Some is.0)) (both (nat_lt is.0 128) _ is.2).1)
+-- a byte that is neither of two
+pub in_line : (k : Before) → IsAlways k (λ b. not (is_line_feed (Some b))) → IsAlways k (λ b. not (is_carriage_return (Some b)))
+    → IsAlways k (λ b. not (is_line_feed (Some b) || is_carriage_return (Some b)))
+in_line k feeds returns o is =
+    let feed = feeds o is in
+    let return = returns o is in
+    let same : return.0 ≡ feed.0 = same_Some return.0 feed.0 (sym return.1 ∙ feed.1) in
+    (feed.0, feed.1, by (is_line_feed (Some feed.0)) (is_carriage_return (Some feed.0)) feed.2 (subst (λ (b : ℕ). not (is_carriage_return (Some b)) ≡ true) same return.2))
   where
-    by : (w e : Bool) → not (w || e) ≡ true → not e ≡ true
-    by true e h = absurd (true≢false (sym h))
-    by false e h = h
-
-pub wide_in_line : IsAlways Wide (λ b. not (is_line_feed (Some b) || is_carriage_return (Some b)))
-wide_in_line o is = (is.0, is.1, by is.0 is.2) where
-  by : (b : ℕ) → nat_le 0x80 b ≡ true → not (is_line_feed (Some b) || is_carriage_return (Some b)) ≡ true
-  by b e = grind (arith, nat_tests)
-
--- nothing is asked of the byte
-pub anything : (k : Before) (test : ℕ → Bool) → IsAlways k test → IsAlways k (λ b. true)
-anything k test always o is = let b = always o is in (b.0, b.1, refl)
-
-pub line_feed_stands : IsAlways LineFeed (λ b. true)
-line_feed_stands o is = (10, is, refl)
-
--- a carriage return ends a line, but is no line feed
-pub carriage_return_is : IsAlways CarriageReturn (λ b. not (is_line_feed (Some b)))
-carriage_return_is o is = (13, is, refl)
-
--- what ends no line is no line feed
-pub no_feed : (k : Before) → IsAlways k (λ b. not (is_line_feed (Some b) || is_carriage_return (Some b))) → IsAlways k (λ b. not (is_line_feed (Some b)))
-no_feed k always o is = let b = always o is in (b.0, b.1, by (is_line_feed (Some b.0)) (is_carriage_return (Some b.0)) b.2) where
-  by : (a b : Bool) → not (a || b) ≡ true → not a ≡ true
-  by true b h = h
-  by false b h = refl
+    by : (a b : Bool) → not a ≡ true → not b ≡ true → not (a || b) ≡ true
+    by true b h g = h
+    by false b h g = g
 
 -- where something stands before it is not the text's start
 not_at_start : (h : List ℕ) (p b : ℕ) → byte_before h p ≡ Some b → (p == 0) ≡ false

@@ -1,4 +1,5 @@
 pub mod PriceLemmas
+mod RowLemmas
 pub mod SumOfPrices
 pub mod BeginLemmas
 pub mod DyingWays

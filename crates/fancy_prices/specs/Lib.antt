@@ -3,5 +3,7 @@ pub mod Prices
 pub mod Entries
 pub mod Splits
 pub mod Front
+pub mod Kinds
+pub mod Rows
 pub mod Told
 pub mod Once

@@ -1,7 +1,8 @@
 -- What code costs where all of its ways die, and what is told of a place tells of that.
-use Rattle.std.specs.Prelude.{◌≡◌, ℕ, suc, ◌-◌, ◌<◌, ◌≤◌, ◌==◌, Bool, true, false, ◌&&◌, List, [], ◌∷◌, length, Option, Some, None, if◌then◌else◌, nat_lt, slice_index}
+use Rattle.std.specs.Prelude.{◌≡◌, ℕ, suc, ◌-◌, ◌<◌, ◌≤◌, ◌==◌, Bool, true, false, ◌&&◌, List, [], ◌∷◌, length, Option, Some, None, if◌then◌else◌, nat_lt, slice_get, slice_index}
 use Rattle.fancy_tree.specs.declared.tree.Meaning.{Meaning}
 use Rattle.fancy_bytes.specs.Items.{encoding}
+use Rattle.fancy_input.specs.Lines.{byte_before}
 use Rattle.fancy_meaning.specs.Context.{Context, State}
 use Rattle.fancy_meaning.specs.Events.{Event, any, ends_look, marks_in, returns_in}
 use Rattle.fancy_code.specs.Instructions.{Instruction, Back, Character, Match, Member}
@@ -111,6 +112,12 @@ EndsOtherwise kind c = (meaning : Meaning) → IsOfKind kind (Some (last_byte me
 abbrev pub Dies : List Instruction → Meaning → Facts → ℕ → ℕ → ℕ → Type 0
 Dies code meaning f m r q =
     (x : Context) (limit n : ℕ) (s : State) (v : List ℕ) → x.meaning ≡ meaning → Stands f x.haystack s.place
+    → Costs m r (run x limit code n q s v)
+
+-- So it is where this byte stands, and that before it.
+abbrev pub DiesAfter : List Instruction → Meaning → Option ℕ → ℕ → ℕ → ℕ → ℕ → Type 0
+DiesAfter code meaning before here m r q =
+    (x : Context) (limit n : ℕ) (s : State) (v : List ℕ) → x.meaning ≡ meaning → slice_get x.haystack s.place ≡ Some here → byte_before x.haystack s.place ≡ before
     → Costs m r (run x limit code n q s v)
 
 -- Where the text before a place ends so, the code from q on dies there, and counts so many marks and returns.

@@ -102,7 +102,7 @@ pub(crate) fn tests_before(code: &Code, at: usize, deep: usize) -> bool {
 }
 
 /// Whether the code has `Match` there.
-fn is_match(code: &Code, at: usize) -> bool
+pub(crate) fn is_match(code: &Code, at: usize) -> bool
     ensures { result ≡ true → instr_at (instrs_of code.now) at ≡ Match }
 {
     if at >= code.len() {
@@ -115,17 +115,14 @@ fn is_match(code: &Code, at: usize) -> bool
 }
 
 /// Whether an item of a set may end with a byte of this kind.
-fn may_end_member(kind: Before, set: &CharSet) -> bool
-    ensures { result ≡ false → (c : ℕ) → has (edges_in set.now) c ≡ true → EndsOtherwise kind c }
+fn may_end_member(kind: Before<'_>, set: &CharSet) -> bool
+    ensures { result ≡ false → (c : ℕ) → has (edges_in set.now) c ≡ true → EndsOtherwise kind.entry c }
 {
     if kind.is_wide() && !is_ascii(set.edges()) {
         return true;
     }
-    if !kind.is_ascii() {
-        return false;
-    }
-    for byte in kind.low_start()..kind.low_end() {
-        if set.contains(byte) && kind.may_be(byte as u8) {
+    for byte in 0..0x80u32 {
+        if kind.may_be(byte as u8) && set.contains(byte) {
             return true;
         }
     }
@@ -147,9 +144,9 @@ fn reads_low(code: &Code, at: usize) -> bool
 
 /// Whether a way that reads a character and goes on at `next` stops at no place before which the text ends so: it stops behind the
 /// character, or one ASCII character later.
-fn ends_otherwise(code: &Code, character: char, next: usize, ending: Ending) -> bool
+fn ends_otherwise(code: &Code, character: char, next: usize, ending: Ending<'_>) -> bool
     ensures { result ≡ true → (at : ℕ) → instr_at (instrs_of code.now) at ≡ Character character next
-        → StopsNeverBehind (instrs_of code.now) ending 0 0 at }
+        → StopsNeverBehind (instrs_of code.now) ending.entry 0 0 at }
 {
     match ending {
         Ending::Last(kind) => is_match(code, next) && !kind.may_end(character),
@@ -158,9 +155,9 @@ fn ends_otherwise(code: &Code, character: char, next: usize, ending: Ending) -> 
 }
 
 /// The same for a way that reads an item of a set, where the kind of the last byte is told.
-fn member_ends_otherwise(code: &Code, set: &CharSet, next: usize, ending: Ending) -> bool
+fn member_ends_otherwise(code: &Code, set: &CharSet, next: usize, ending: Ending<'_>) -> bool
     ensures { result ≡ true → (at : ℕ) → instr_at (instrs_of code.now) at ≡ Member (edges_in set.now) next
-        → StopsNeverBehind (instrs_of code.now) ending 0 0 at }
+        → StopsNeverBehind (instrs_of code.now) ending.entry 0 0 at }
 {
     match ending {
         Ending::Last(kind) => is_match(code, next) && !may_end_member(kind, set),
@@ -171,8 +168,8 @@ fn member_ends_otherwise(code: &Code, set: &CharSet, next: usize, ending: Ending
 /// What the code from an instruction on costs where it stops at no place before which the text ends so, since the items of each way
 /// cannot. `None` where that is not told: the code is not followed so deep, or they may.
 #[cycle(never)]
-fn stops_never_behind(code: &Code, at: usize, ending: Ending, deep: usize) -> Option<Price>
-    ensures { IfSome result (λ p. StopsNeverBehind (instrs_of code.now) ending p.marks p.returns at) }
+fn stops_never_behind(code: &Code, at: usize, ending: Ending<'_>, deep: usize) -> Option<Price>
+    ensures { IfSome result (λ p. StopsNeverBehind (instrs_of code.now) ending.entry p.marks p.returns at) }
 {
     if at >= code.len() || deep == 0 {
         return None;
@@ -202,8 +199,8 @@ fn stops_never_behind(code: &Code, at: usize, ending: Ending, deep: usize) -> Op
 
 /// What an attempt costs that looks behind its position first, where the text before that ends so and what it looks for does not stand
 /// there. `None` where that is not told.
-pub(crate) fn price_behind(code: &Code, ending: Ending, deep: usize) -> Option<Price>
-    ensures { IfSome result (λ p. DiesBehind (instrs_of code.now) ending p.marks p.returns code.now.start) }
+pub(crate) fn price_behind(code: &Code, ending: Ending<'_>, deep: usize) -> Option<Price>
+    ensures { IfSome result (λ p. DiesBehind (instrs_of code.now) ending.entry p.marks p.returns code.now.start) }
 {
     if code.start >= code.len() {
         return None;
@@ -215,13 +212,13 @@ pub(crate) fn price_behind(code: &Code, ending: Ending, deep: usize) -> Option<P
 }
 
 /// Whether each byte of this kind is ASCII, and by itself an item of the set.
-fn is_each_member(kind: Before, set: &CharSet) -> bool
-    ensures { result ≡ true → IsAlways kind (λ b. nat_lt b 128 && has (edges_in set.now) b) }
+fn is_each_member(kind: Before<'_>, set: &CharSet) -> bool
+    ensures { result ≡ true → IsAlways kind.entry (λ b. nat_lt b 128 && has (edges_in set.now) b) }
 {
-    if !kind.is_ascii() {
+    if !kind.is_byte() || kind.is_wide() {
         return false;
     }
-    for byte in kind.low_start()..kind.low_end() {
+    for byte in 0..0x80u32 {
         if kind.may_be(byte as u8) && !set.contains(byte) {
             return false;
         }
@@ -230,8 +227,8 @@ fn is_each_member(kind: Before, set: &CharSet) -> bool
 }
 
 /// Whether the code reads an item of a set and stops, and each byte of this kind is such an item.
-fn reads_each(code: &Code, at: usize, kind: Before) -> bool
-    ensures { result ≡ true → ReadsEach (instrs_of code.now) kind at }
+fn reads_each(code: &Code, at: usize, kind: Before<'_>) -> bool
+    ensures { result ≡ true → ReadsEach (instrs_of code.now) kind.entry at }
 {
     if at >= code.len() {
         return false;
@@ -245,8 +242,8 @@ fn reads_each(code: &Code, at: usize, kind: Before) -> bool
 }
 
 /// Whether the code goes back over one item and finds it, behind each byte of this kind.
-fn finds_behind(code: &Code, at: usize, kind: Before) -> bool
-    ensures { result ≡ true → FindsBehind (instrs_of code.now) kind at }
+fn finds_behind(code: &Code, at: usize, kind: Before<'_>) -> bool
+    ensures { result ≡ true → FindsBehind (instrs_of code.now) kind.entry at }
 {
     if at >= code.len() {
         return false;
@@ -258,8 +255,8 @@ fn finds_behind(code: &Code, at: usize, kind: Before) -> bool
 }
 
 /// Whether a negated look-around is told to find its body.
-fn is_denied(code: &Code, behind: bool, body: usize, facts: Facts) -> bool
-    ensures { result ≡ true → IsDenied (instrs_of code.now) behind facts body }
+fn is_denied(code: &Code, behind: bool, body: usize, facts: Facts<'_>) -> bool
+    ensures { result ≡ true → IsDenied (instrs_of code.now) behind facts.entry body }
 {
     let Some(kind) = facts.before else {
         return false;
@@ -269,8 +266,14 @@ fn is_denied(code: &Code, behind: bool, body: usize, facts: Facts) -> bool
 
 /// What the body of a look-around costs where it finds nothing. `None` where that is not told.
 #[cycle(price)]
-fn price_of_body(code: &Code, behind: bool, body: usize, facts: Facts, deep: usize) -> Option<Price>
-    ensures { IfSome result (λ p. FindsNone (instrs_of code.now) code.now.meaning behind facts p.marks p.returns body) }
+fn price_of_body(
+    code: &Code,
+    behind: bool,
+    body: usize,
+    facts: Facts<'_>,
+    deep: usize,
+) -> Option<Price>
+    ensures { IfSome result (λ p. FindsNone (instrs_of code.now) code.now.meaning behind facts.entry p.marks p.returns body) }
 {
     if deep == 0 {
         return None;
@@ -293,11 +296,11 @@ fn price_of_look(
     behind: bool,
     body: usize,
     next: usize,
-    facts: Facts,
+    facts: Facts<'_>,
     deep: usize,
 ) -> Option<Price>
     ensures { IfSome result (λ p. (at : ℕ) → instr_at (instrs_of code.now) at ≡ Look behind body next
-        → Dies (instrs_of code.now) code.now.meaning facts p.marks p.returns at) }
+        → Dies (instrs_of code.now) code.now.meaning facts.entry p.marks p.returns at) }
 {
     if deep == 0 {
         return None;
@@ -315,8 +318,8 @@ fn price_of_look(
 /// What the code from an instruction on costs where the facts hold and it dies. `None` where it is not told that it does: the code is
 /// not followed so deep, or it costs too much.
 #[cycle(price)]
-pub(crate) fn price_of(code: &Code, at: usize, facts: Facts, deep: usize) -> Option<Price>
-    ensures { IfSome result (λ p. Dies (instrs_of code.now) code.now.meaning facts p.marks p.returns at) }
+pub(crate) fn price_of(code: &Code, at: usize, facts: Facts<'_>, deep: usize) -> Option<Price>
+    ensures { IfSome result (λ p. Dies (instrs_of code.now) code.now.meaning facts.entry p.marks p.returns at) }
 {
     if at >= code.len() {
         return Some(Price::nothing());
@@ -358,9 +361,9 @@ pub(crate) fn price_of(code: &Code, at: usize, facts: Facts, deep: usize) -> Opt
 }
 
 /// Whether no item that the instruction reads begins with the byte that stands there.
-fn begins_otherwise(code: &Code, at: usize, facts: Facts) -> bool
+fn begins_otherwise(code: &Code, at: usize, facts: Facts<'_>) -> bool
     requires { at < code_len code.now }
-    ensures { result ≡ true → Dies (instrs_of code.now) code.now.meaning facts 0 0 at }
+    ensures { result ≡ true → Dies (instrs_of code.now) code.now.meaning facts.entry 0 0 at }
 {
     match code.instr(at) {
         Instr::Character(character, _) => {
@@ -374,8 +377,8 @@ fn begins_otherwise(code: &Code, at: usize, facts: Facts) -> bool
 
 /// Whether the code from an instruction on dies where the facts hold, opens no choice and takes none back. It is not told where the
 /// code is not followed so deep.
-pub(crate) fn is_free(code: &Code, at: usize, facts: Facts, deep: usize) -> bool
-    ensures { result ≡ true → Dies (instrs_of code.now) code.now.meaning facts 0 0 at }
+pub(crate) fn is_free(code: &Code, at: usize, facts: Facts<'_>, deep: usize) -> bool
+    ensures { result ≡ true → Dies (instrs_of code.now) code.now.meaning facts.entry 0 0 at }
 {
     match price_of(code, at, facts, deep) {
         Some(price) => price.is_nothing(),

@@ -5,10 +5,10 @@ ghost use Rattle.fancy_bytes.specs.Sets.{member};
 ghost use Rattle.fancy_code.specs.Code.{instrs_of};
 ghost use Rattle.fancy_prices.specs.Front.{AreWhole, DiesAtEach, IsFront};
 
-use crate::entries::is_continuation;
 use crate::facts::Facts;
 use crate::free::is_free;
 use crate::price::Price;
+use crate::rows::is_continuation;
 use crate::splits::{Splits, ToldSplit, reader_at};
 use fancy_bytes::byte_set::ByteSet;
 use fancy_code::code::{Code, Instr};

@@ -7,6 +7,8 @@ pub mod entries;
 mod facts;
 mod free;
 pub mod front;
+mod kinds;
 pub mod price;
 pub mod prices;
+mod rows;
 pub mod splits;

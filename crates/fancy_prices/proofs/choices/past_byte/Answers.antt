@@ -1,7 +1,7 @@
-use Rattle.std.proofs.Common.{◌≡◌, ◌∙◌, ◌==◌, List, ℕ, true, sym, ap, subst, eq-eqb}
+use Rattle.std.proofs.Common.{◌≡◌, ◌∙◌, ◌==◌, List, ℕ, true, sym, ap, eq-eqb}
 use Rattle.fancy_tree.specs.Sets.{has}
 use Rattle.fancy_code.specs.Code.{instrs_of, instr_in, set_edges}
-use Rattle.fancy_code.specs.Instructions.{Character, Member, RawByte}
+use Rattle.fancy_code.specs.Instructions.{RawByte}
 use Rattle.fancy_prices.proofs.SplitLemmas.{reads_character, reads_member, reads_raw_byte}
 use Rattle.fancy_prices.proofs.choices.past_byte.Goals as goal
 

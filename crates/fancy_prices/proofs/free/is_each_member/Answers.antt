@@ -11,7 +11,7 @@ loop-byte-preserved c b low lt of =
     elim (cases_eq b c.loop-byte.byte) [
       | inl same ↦ elim c.else-may_be.branch [
         | else-may_be-via-then-may_be+else-not-contains w ↦ ap (has (edges_in c.args.set.now)) same ∙ sym w.contains.ensures ∙ w.if-not-contains.false
-        | else-may_be-via-else-may_be w ↦ absurd (c.may_be.ensures w.if-may_be.false (omega (arith, low, same)) (subst (λ (k : ℕ). IsOfKind c.args.kind (Some k)) same of))
+        | else-may_be-via-else-may_be w ↦ absurd (c.may_be.ensures w.if-may_be.false (subst (λ (k : ℕ). IsOfKind c.args.kind (Some k)) same of))
       ]
       | inr other ↦ c.loop-byte.invariant b low (omega (arith, lt, other)) of
     ]

@@ -10,8 +10,8 @@ returns-in_default c =
       none = passed_unseen c.args.self.now c.args.haystack.now c.args.from c.loop-place.place c.args.to c.loop-place.invariant.within c.loop-place.invariant.none c.in_default.ensures;
     }
 
-pub returns-then-is_after : goal.returns-then-is_after
-returns-then-is_after c =
+pub returns-then-is_costly : goal.returns-then-is_costly
+returns-then-is_costly c =
     let seen = c.in-Some.ensures in
     record {
       passed = omega (arith, c.loop-place.invariant.passed, seen.passed);
@@ -25,7 +25,7 @@ loop-place-preserved c =
     record {
       passed = omega (arith, c.loop-place.invariant.passed, seen.passed);
       within = omega (arith, seen.within);
-      none = passed_seen c.args.self.now c.args.haystack.now c.args.from c.loop-place.place c.args.to c.in-Some.seen c.loop-place.invariant.none seen (sym c.is_after.ensures ∙ c.if-is_after.false);
+      none = passed_seen c.args.self.now c.args.haystack.now c.args.from c.loop-place.place c.args.to c.in-Some.seen c.loop-place.invariant.none seen (sym c.is_costly.ensures ∙ c.if-is_costly.false);
     }
 
 pub returns : goal.returns

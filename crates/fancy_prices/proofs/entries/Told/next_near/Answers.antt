@@ -1,5 +1,7 @@
-use Rattle.std.proofs.Common.{arith}
-use Rattle.fancy_prices.proofs.EntryLemmas.{bit_next, no_bit_here, passed_one, passed_up_to}
+use Rattle.std.proofs.Common.{Option, ◌∙◌, arith, ap, sym, slice_index}
+use Rattle.fancy_prices.specs.declared.rows.Row.{Row}
+use Rattle.fancy_prices.specs.Entries.{costly_in}
+use Rattle.fancy_prices.proofs.EntryLemmas.{passed_one, passed_up_to, row_next}
 use Rattle.fancy_prices.proofs.entries.Told.next_near.Goals as goal
 
 pub loop-place-preserved : goal.loop-place-preserved
@@ -7,9 +9,9 @@ loop-place-preserved c =
     record {
       passed = omega (arith, c.loop-place.invariant.passed);
       within = omega (arith, c.loop-place-test.true);
-      kind = bit_next c.args.self.now c.args.haystack.now c.loop-place.place (omega (arith, c.loop-place-test.true, c.requires.inside));
+      row = sym (row_next c.args.self.now c.args.haystack.now c.loop-place.place (omega (arith, c.loop-place-test.true, c.requires.inside))) ∙ c.after-row.ensures;
       none = passed_one c.args.self.now c.args.haystack.now c.args.from c.loop-place.place c.loop-place.invariant.none
-          (no_bit_here c.args.self.now c.args.haystack.now c.loop-place.place c.loop-place.kind c.loop-place.invariant.kind c.if-self-byte-ne0.false);
+          (ap (λ (o : Option Row). costly_in o (slice_index c.args.haystack.now c.loop-place.place)) c.loop-place.invariant.row ∙ c.if-row-byte.false);
     }
 
 pub returns : goal.returns

@@ -9,4 +9,4 @@ returns c e meaning of = c.is_wide.ensures e (last_byte meaning c.args.character
 
 pub returns-then-code-lt128 : goal.returns-then-code-lt128
 returns-then-code-lt128 c e meaning of =
-    c.may_be.ensures e (omega (arith, c.if-code-lt128.true)) (subst (λ b. IsOfKind c.args.self (Some b)) (low_last meaning c.args.character (omega (arith, c.if-code-lt128.true))) of)
+    c.may_be.ensures e (subst (λ b. IsOfKind c.args.self (Some b)) (low_last meaning c.args.character (omega (arith, c.if-code-lt128.true))) of)

@@ -7,7 +7,7 @@ returns-in-TextStart c e x p stands =
 
 pub returns-in-LineStart : goal.returns-in-LineStart
 returns-in-LineStart c e x p stands =
-    line_start_fails c.args.self c.in-Some.before c.in-Some.is c.args.assertion x p stands c.in-LineStart.is (c.is_no_line_feed.ensures e)
+    line_start_fails c.args.self c.in-Some.before c.in-Some.is c.args.assertion x p stands c.in-LineStart.is (c.is_other_than.ensures e)
 
 pub returns-in-LineStartCrlf : goal.returns-in-LineStartCrlf
 returns-in-LineStartCrlf c e x p stands =

@@ -1,0 +1,10 @@
+use Rattle.std.proofs.Common.{◌≡◌, ◌<◌, ℕ, None, length}
+use Rattle.std.specs.Prelude.{slice_index_or}
+use Rattle.fancy_prices.specs.Rows.{TellsByte}
+use Rattle.fancy_prices.proofs.rows.plain_prices.Given as goal
+
+abbrev pub invariant-loop-byte : goal.invariant-loop-byte
+invariant-loop-byte l = record {
+  size : length l.row ≡ 256;
+  below : (b : ℕ) → b < l.byte → TellsByte l.fn.code None b (slice_index_or l.row b None);
+}
