@@ -24,7 +24,7 @@ use Rattle.fancy_machine.proofs.PassLemmas.{Passed, passed_fetch, passed_then, a
 use Rattle.fancy_machine.proofs.CloseLemmas.{alone_items, closed, items_limit}
 
 -- a way that stops at once leaves the group
-at_close : (cx : Context) (code : List Instruction) (deep : ℕ) (z : Spot) (limit next : ℕ) (fs : List Frame) (w : List Raw) → StopsAt code z.at next → z.limit ≡ limit
+pub at_close : (cx : Context) (code : List Instruction) (deep : ℕ) (z : Spot) (limit next : ℕ) (fs : List Frame) (w : List Raw) → StopsAt code z.at next → z.limit ≡ limit
     → left (λ l. run cx l code deep) z (Within (Atom limit) ∷ fs) ≡ Some w → (rest : List Raw) × (left (λ l. run cx l code deep) (at_instr next z) fs ≡ Some rest) × Passed 0 0 w rest
 at_close cx code deep z limit next fs w stops same known =
     let go : ℕ → Go = λ l. run cx l code deep in

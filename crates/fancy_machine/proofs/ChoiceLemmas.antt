@@ -1,5 +1,5 @@
 -- An attempt at a choice that is told: what it seeks where the byte leads that stands there.
-use Rattle.std.proofs.Common.{◌≡◌, ℕ, ◌+◌, ◌<◌, ◌≤◌, List, [], ◌∷◌, length, Option, Some, refl, sym, ap, ap₂, ◌∙◌, subst, arith}
+use Rattle.std.proofs.Common.{◌≡◌, ℕ, zero, suc, ◌+◌, ◌<◌, ◌≤◌, List, [], ◌∷◌, length, Option, Some, refl, sym, ap, ap₂, ◌∙◌, subst, arith}
 use Rattle.std.specs.Prelude.{slice_get}
 use Rattle.std.proofs.lemmas.Option.{same_Some}
 use Rattle.std.proofs.Math.Logic.{∥∥₁_elim}
@@ -8,19 +8,23 @@ use mathlib.Core.HLevel.{is_prop→PathP}
 use Rattle.fancy_meaning.specs.Context.{Context, State}
 use Rattle.fancy_code.specs.Code.{instrs_of}
 use Rattle.fancy_code.specs.Instructions.{Instruction}
+use Rattle.fancy_code.specs.Instructions as i
 use Rattle.fancy_code.specs.Run.{Raw, run}
 use Rattle.fancy_code.specs.declared.step.Next.TheVariants.{On, Dead}
 use Rattle.fancy_prices.specs.declared.choices.Onward.{Onward}
 use Rattle.fancy_prices.specs.declared.choices.Onward.TheVariants.{Ends, Goes, Reads}
 use Rattle.fancy_prices.specs.declared.choices.Passage.{Passage}
 use Rattle.fancy_prices.specs.declared.choices.ToldChoice.{ToldChoice}
-use Rattle.fancy_prices.specs.Splits.{IsToldChoice, Leads, LeadsTo, Passes, ReadsByte, ways_of}
+use Rattle.fancy_prices.specs.Splits.{IsToldChoice, Leads, LeadsOut, LeadsTo, Passes, ReadsByte, ways_of}
 use Rattle.fancy_machine.specs.declared.attempt.Attempt.{Attempt}
 use Rattle.fancy_machine.specs.Attempt.{attempt_context, accepts, code_in, Seeks, SeeksBack, Advanced, size_ahead}
 use Rattle.fancy_machine.specs.Choices.{IsTaken, saved_ways}
-use Rattle.fancy_machine.specs.Frames.{Frame, Held, Saved, Spot, saved}
-use Rattle.fancy_machine.specs.Machine.{finish, left, at_instr, at_place}
-use Rattle.fancy_machine.proofs.PassLemmas.{Passed, passed_none, passed_then, at_byte, at_split, at_last_end, over, seeks_on, fewer_on, returns_to_come, choices_to_come}
+use Rattle.fancy_machine.specs.Frames.{Atom, Frame, Held, Saved, Spot, Within, saved}
+use Rattle.fancy_machine.specs.Machine.{finish, left, at_instr, at_place, IsEndedByAny}
+use Rattle.fancy_machine.proofs.AtomLemmas.{at_close}
+use Rattle.fancy_machine.proofs.CloseLemmas.{SavedOn, at_stop}
+use Rattle.fancy_machine.proofs.MachineSteps.{acts}
+use Rattle.fancy_machine.proofs.PassLemmas.{Passed, passed_fetch, passed_none, passed_then, at_byte, at_split, at_last_end, over, seeks_on, fewer_on, returns_to_come, choices_to_come}
 
 -- so many marks and returns later something is left, if o is known
 abbrev Left : Option (List Raw) → ℕ → ℕ → List Raw → Type 0
@@ -35,6 +39,10 @@ left_once o m r w = λ a b i.
 saved_at : (ways : List ℕ) (q : ℕ) (x : Spot) (fs : List Frame) → saved_ways ways (at_instr q x) fs ≡ saved_ways ways x fs
 saved_at [] q x fs = refl
 saved_at (way ∷ ways) q x fs = saved_at ways q x (Saved (at_instr way x) ∷ fs)
+
+saved_on : (ways : List ℕ) (x : Spot) (n k : ℕ) (gs fs : List Frame) → n + length ways ≡ k → SavedOn n gs fs → SavedOn k (saved_ways ways x gs) fs
+saved_on [] x n k gs fs count on = let same : n ≡ k = omega (arith, count) in subst (λ (m : ℕ). SavedOn m gs fs) same on
+saved_on (way ∷ ways) x n k gs fs count on = saved_on ways x (suc n) k (Saved (at_instr way x) ∷ gs) fs (omega (arith, count)) on
 
 saved_more : (ways : List ℕ) (x : Spot) (fs : List Frame) → saved (saved_ways ways x fs) ≡ length ways + saved fs
 saved_more [] x fs = omega arith
@@ -57,6 +65,27 @@ module _ (cx : Context) (code : List Instruction) (deep : ℕ) where
         passed_then (passed_then before.2 met.2 refl refl) after.2 (omega (arith, o.10)) (omega (arith, o.11)),
       )
 
+  -- so they are in atomic groups that are come out of, and what is after them leaves the way at the place p
+  module _ (b : ℕ) (Last : ℕ → ℕ → Type 0) (p : ℕ) (y : Spot) (here : slice_get cx.haystack y.state.place ≡ Some b)
+      (last : (at to : ℕ) → Last at to → (fs : List Frame) (w : List Raw) → left (λ l. run cx l code deep) (at_instr at y) fs ≡ Some w → Left (left (λ l. run cx l code deep) (at_place to p y) fs) 0 0 w) where
+    leads_out : (groups m r q to : ℕ) (ways : List ℕ) → LeadsOut code cx.meaning b Last groups m r ways q to → (fs : List Frame) (w : List Raw)
+        → left (λ l. run cx l code deep) (at_instr q y) fs ≡ Some w → Left (left (λ l. run cx l code deep) (at_place to p y) (saved_ways ways y fs)) (m + length ways) r w
+    leads_out zero m r q to ways t fs w known =
+        let on = leads_to b m r q t.0 ways t.1 (at_instr q y) refl here fs w known in
+        let end = last t.0 to t.2 (saved_ways ways y fs) on.0 (ap (left (λ l. run cx l code deep) (at_instr t.0 y)) (sym (saved_at ways q y fs)) ∙ on.1) in
+        (end.0, end.1, passed_then on.2 end.2 (omega arith) (omega arith))
+    leads_out (suc groups) m r q to ways t fs w known =
+        let on = leads_to b t.0 t.1 q t.2 ways t.3 (at_instr q y) refl here fs w known in
+        let gs = saved_ways ways y fs in
+        let inner = Within (Atom y.limit) ∷ gs in
+        let begun = acts cx code deep (at_instr t.2 y) gs on.0 (ap (left (λ l. run cx l code deep) (at_instr t.2 y)) (sym (saved_at ways q y fs)) ∙ on.1) (i.Enter t.4) t.5 in
+        let within = leads_out groups t.6 t.7 t.4 t.9 t.8 t.10 inner begun.0 begun.1 in
+        let ended : IsEndedByAny inner = (Atom y.limit, gs, (refl, refl), λ s. refl) in
+        let dropped = at_stop cx code deep t.9 inner ended to t.11 (at_place t.9 p y) (length t.8) (saved_ways t.8 y inner) within.0 refl (saved_on t.8 y 0 (length t.8) inner inner (omega arith) refl) within.1 in
+        let out = at_close cx code deep (at_place t.9 p y) y.limit to gs within.0 t.11 refl dropped in
+        let entered = passed_then {k = t.0 + length ways} {l = t.1} on.2 (passed_fetch on.0 begun.0 begun.2) (omega arith) (omega arith) in
+        (out.0, out.1, passed_then (passed_then entered within.2 refl refl) out.2 (omega (arith, t.12)) (omega (arith, t.13)))
+
 module _ (a : Attempt) (c : ToldChoice) (h : Held) (is : IsToldChoice (instrs_of a.code.now) a.code.now.meaning h.now.at c)
     (best : Option State) (deep : ℕ) (goal : Option State) (total choices r : ℕ) (s : Seeks a deep goal total choices h best r) where
   abbrev cx : Context
@@ -71,19 +100,17 @@ module _ (a : Attempt) (c : ToldChoice) (h : Held) (is : IsToldChoice (instrs_of
   Led m t ways (Goes to) = Left (left (code_in a deep) (at_instr to h.now) (saved_ways ways h.now h.frames)) (m + length ways) t s.rest
   Led m t ways (Reads to) = Left (left (code_in a deep) (at_place to (h.now.state.place + 1) h.now) (saved_ways ways h.now h.frames)) (m + length ways) t s.rest
 
-  read_past : (b m t to : ℕ) (ways : List ℕ) → slice_get a.haystack.now h.now.state.place ≡ Some b → h.now.state.place < h.now.limit
-      → ((from : ℕ) × LeadsTo code cx.meaning b m t ways h.now.at from × ReadsByte code cx.meaning b from to) → Led m t ways (Reads to)
-  read_past b m t to ways here lt o =
-      let on = leads_to cx code deep b m t h.now.at o.0 ways o.1 h.now refl here h.frames s.rest s.known in
-      let read = at_byte cx code deep (at_instr o.0 h.now) (saved_ways ways h.now h.frames) on.0 b to on.1 o.2 here lt in
-      (read.0, read.1, passed_then on.2 read.2 (omega arith) (omega arith))
-
   by_byte : (b m t : ℕ) (ways : List ℕ) (o : Onward) → slice_get a.haystack.now h.now.state.place ≡ Some b → h.now.state.place < h.now.limit → Leads code cx.meaning b m t ways o h.now.at
       → Led m t ways o
   by_byte b m t ways Ends here lt leads = (leads.0, at_last_end cx code deep m t h.now h.frames s.rest b s.known leads.1 here)
   by_byte b m t ways (Goes to) here lt leads =
-      ∥∥₁_elim leads (left_once _ (m + length ways) t s.rest) (λ o. leads_to cx code deep b m t h.now.at to ways o h.now refl here h.frames s.rest s.known)
-  by_byte b m t ways (Reads to) here lt leads = ∥∥₁_elim leads (left_once _ (m + length ways) t s.rest) (read_past b m t to ways here lt)
+      ∥∥₁_elim leads (left_once _ (m + length ways) t s.rest)
+      (λ o. leads_out cx code deep b (λ from next. from ≡ next) h.now.state.place h.now here
+      (λ at next same fs w known. (w, subst (λ (q : ℕ). left (code_in a deep) (at_instr q h.now) fs ≡ Some w) same known, passed_none w)) o.0 m t h.now.at to ways o.1 h.frames s.rest s.known)
+  by_byte b m t ways (Reads to) here lt leads =
+      ∥∥₁_elim leads (left_once _ (m + length ways) t s.rest)
+      (λ o. leads_out cx code deep b (ReadsByte code cx.meaning b) (h.now.state.place + 1) h.now here
+      (λ at next reads fs w known. at_byte cx code deep (at_instr at h.now) fs w b next known reads here lt) o.0 m t h.now.at to ways o.1 h.frames s.rest s.known)
 
   -- so many marks and returns later something else is left
   module _ (m t : ℕ) (rest : List Raw) (passed : Passed m t s.rest rest) (some : 0 < m) (u : ℕ) (count : u ≡ t) where

@@ -140,9 +140,9 @@ module _ (cx : Context) (code : List Instruction) (deep : ℕ) where
           passed_then {m = 0} {r = 0} (passed_then {k = 0} {l = 0} (passed_fetch w a.0 a.2) (passed_fetch a.0 b.0 b.2) (omega arith) (omega arith)) (passed_fetch b.0 c.0 c.2) (omega arith) (omega arith),
         )
 
-  module _ (l : ToldSplit) (fs : List Frame) (ended : IsEndedByAny fs) (next : ℕ) (stops : StopsAt code l.second next) where
-    -- what follows the loop stops at once, and no branch that was saved for the loop is left
-    at_stop : (z : Spot) (m : ℕ) (gs : List Frame) (w : List Raw) → z.at ≡ l.second → SavedOn m gs fs → left go z gs ≡ Some w → left go z fs ≡ Some w
+  -- a way that stops at once ends the innermost region, and no branch that was saved in it is left
+  module _ (last : ℕ) (fs : List Frame) (ended : IsEndedByAny fs) (next : ℕ) (stops : StopsAt code last next) where
+    pub at_stop : (z : Spot) (m : ℕ) (gs : List Frame) (w : List Raw) → z.at ≡ last → SavedOn m gs fs → left go z gs ≡ Some w → left go z fs ≡ Some w
     at_stop z m gs w at on known =
         let k = finish_known go gs (after go z) w known in
         let more = run_more cx z.limit code deep z.at z.state z.starts k.0 k.1 in
@@ -153,6 +153,7 @@ module _ (cx : Context) (code : List Instruction) (deep : ℕ) where
         let alone = stop_alone go next z.state z.starts b.0 ended.0 ended.1 fs t.0 [] ended.2 (ended.3 z.state) t.1 in
         ap (finish go fs) is ∙ finish_note go fs fetched (Some (Stop next z.state z.starts ∷ [])) ∙ ap (before (Note fetched)) alone ∙ ap Some (sym b.2)
 
+  module _ (l : ToldSplit) (fs : List Frame) (ended : IsEndedByAny fs) (next : ℕ) (stops : StopsAt code l.second next) where
     pub closed : (n m : ℕ) (x : Spot) (gs : List Frame) (w : List Raw) → IsToldSplit code cx.meaning x.at l → SavedOn m gs fs → left go x gs ≡ Some w → HasItems l cx.haystack x.state.place n
         → ((k : ℕ) → k < n → x.state.place + k < x.limit) → IsStuck l cx.haystack x.limit (x.state.place + n)
         → (rest : List Raw) × (left go (at_instr l.second (past_items l.group n x)) fs ≡ Some rest) × Passed (n + 1) 1 w rest
@@ -162,7 +163,7 @@ module _ (cx : Context) (code : List Instruction) (deep : ℕ) where
         let here : x.state.place + 0 ≡ x.state.place = omega arith in
         let end = at_end cx code deep 0 0 (at_instr l.first x) z gs met.0 met.1
         (stuck_costs cx code deep l x.at is (at_instr l.first x) refl (subst (IsStuck l cx.haystack x.limit) here stuck)) in
-        (end.0, at_stop z m gs end.0 refl on end.1, passed_then met.2 end.2 (omega arith) (omega arith))
+        (end.0, at_stop l.second fs ended next stops z m gs end.0 refl on end.1, passed_then met.2 end.2 (omega arith) (omega arith))
     closed (suc n) m x gs w is on known items fits stuck =
         let met = at_split cx code deep x gs w l.first l.second known is.splits in
         let branch = Saved (at_instr l.second x) in

@@ -115,11 +115,24 @@ LeadsTo code meaning b m r (second ∷ ways) q to =
     (n : ℕ) × (i : ℕ) × (j : ℕ) × (at : ℕ) × PassesOver code meaning b n i j q at × (way : ℕ) × (instr_at code at ≡ Split way second)
     × (k : ℕ) × (l : ℕ) × LeadsTo code meaning b k l ways way to × (m ≡ i + k) × (r ≡ j + l)
 
+-- Where the byte b stands, the code comes from q on to where it goes on at `to` as `Last` says. It goes through so many atomic groups: it comes to the start of one,
+-- goes on so within it, and stops there at once. The ways that are saved in a group are dropped where it stops.
+abbrev pub LeadsOut : List Instruction → Meaning → ℕ → (ℕ → ℕ → Type 0) → ℕ → ℕ → ℕ → List ℕ → ℕ → ℕ → Type 0
+LeadsOut code meaning b Last zero m r ways q to = (at : ℕ) × LeadsTo code meaning b m r ways q at × Last at to
+LeadsOut code meaning b Last (suc groups) m r ways q to =
+    (i : ℕ) × (j : ℕ) × (at : ℕ) × LeadsTo code meaning b i j ways q at × (body : ℕ) × (instr_at code at ≡ Enter body)
+    × (k : ℕ) × (l : ℕ) × (dropped : List ℕ) × (last : ℕ) × LeadsOut code meaning b Last groups k l dropped body last × StopsAt code last to
+    × (m ≡ i + (k + length dropped)) × (r ≡ j + l)
+
+-- the same through any number of them
+abbrev pub LeadsPast : List Instruction → Meaning → ℕ → (ℕ → ℕ → Type 0) → ℕ → ℕ → List ℕ → ℕ → ℕ → Type 0
+LeadsPast code meaning b Last m r ways q to = ∥ ((groups : ℕ) × LeadsOut code meaning b Last groups m r ways q to) ∥₁
+
 -- what a passage from q on does where the byte b stands
 abbrev pub Leads : List Instruction → Meaning → ℕ → ℕ → ℕ → List ℕ → Onward → ℕ → Type 0
 Leads code meaning b m r ways o.Ends q = (ways ≡ []) × Dies code meaning (byte_alone b) m r q
-Leads code meaning b m r ways (o.Goes to) q = ∥ LeadsTo code meaning b m r ways q to ∥₁
-Leads code meaning b m r ways (o.Reads to) q = ∥ ((from : ℕ) × LeadsTo code meaning b m r ways q from × ReadsByte code meaning b from to) ∥₁
+Leads code meaning b m r ways (o.Goes to) q = LeadsPast code meaning b (λ from next. from ≡ next) m r ways q to
+Leads code meaning b m r ways (o.Reads to) q = LeadsPast code meaning b (ReadsByte code meaning b) m r ways q to
 
 -- at least one choice is passed over, or a way of it saved
 abbrev pub Passes : ℕ → List ℕ → Type 0

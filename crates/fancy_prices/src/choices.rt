@@ -1,17 +1,17 @@
 //! Choices of code that are no loops: where the byte at a place leads from them.
 
-ghost use Rattle.std.specs.Prelude.{◌≡◌, ℕ, List, true, [], ◌∷◌, Some, IfOk, IfSome, slice_get};
+ghost use Rattle.std.specs.Prelude.{◌≡◌, ℕ, List, true, [], ◌∷◌, Some, IfOk, IfSome, length, slice_get};
 ghost use Rattle.fancy_tree.specs.declared.tree.Meaning.{Meaning as MeaningIs};
 ghost use Rattle.fancy_code.specs.Code.{instrs_of};
 ghost use Rattle.fancy_code.specs.Instructions.{Instruction, Split};
 ghost use Rattle.fancy_code.specs.Run.{instr_at};
 ghost use Rattle.fancy_prices.specs.declared.choices.Passage.{Passage as PassageIs};
-ghost use Rattle.fancy_prices.specs.Splits.{AreSplits, IsOwn, IsPassage, IsPassageAt, IsToldChoice, Leads, LeadsBy, ReadsByte, ways_of};
+ghost use Rattle.fancy_prices.specs.Splits.{AreSplits, IsOwn, IsPassage, IsPassageAt, IsToldChoice, Leads, LeadsBy, ReadsByte, ways_in, ways_of};
 
 use crate::facts::Facts;
 use crate::free::price_of;
 use crate::price::Price;
-use crate::splits::{Splits, ToldPart, is_alone};
+use crate::splits::{Splits, ToldPart, is_alone, stop_at};
 use fancy_code::code::{Code, Instr, Ways};
 use std::alloc::{AllocError, Global};
 
@@ -52,6 +52,19 @@ pub struct Passage {
     pub saved: SavedWays,
     /// What follows them.
     pub onward: Onward,
+}
+
+impl SavedWays {
+    /// How many they are.
+    fn count(self) -> u8
+        ensures { result ≡ length (ways_in self) }
+    {
+        match self {
+            SavedWays::Nothing => 0,
+            SavedWays::One(_) => 1,
+            SavedWays::Two(_, _) => 2,
+        }
+    }
 }
 
 impl Passage {
@@ -155,8 +168,8 @@ fn past_byte(code: &Code, at: usize, here: u8) -> Option<usize>
     }
 }
 
-/// Where the byte leads from an instruction on, of which the parts so far may tell.
-fn passage_from(splits: &Splits, code: &Code, at: usize, here: u8) -> Passage
+/// Where the byte leads from an instruction on, of which the parts so far may tell. No atomic group is entered.
+fn passage_within(splits: &Splits, code: &Code, at: usize, here: u8) -> Passage
     requires { AreSplits splits.now code.now }
     ensures { Leads (instrs_of code.now) code.now.meaning here
         result.price.marks result.price.returns (ways_of result) result.onward at }
@@ -171,6 +184,45 @@ fn passage_from(splits: &Splits, code: &Code, at: usize, here: u8) -> Passage
     match past_byte(code, at, here) {
         Some(next) => Passage::alone(Price::nothing(), Onward::Reads(next)),
         None => Passage::alone(Price::nothing(), Onward::Goes(at)),
+    }
+}
+
+/// Where the byte leads from an atomic group that it leads out of: the ways that are saved in it are dropped.
+fn past_atom(splits: &Splits, code: &Code, at: usize, here: u8) -> Option<Passage>
+    requires { AreSplits splits.now code.now }
+    ensures { IfSome result (λ p. Leads (instrs_of code.now) code.now.meaning here
+        p.price.marks p.price.returns (ways_of p) p.onward at) }
+{
+    if at >= code.len() {
+        return None;
+    }
+    let Instr::Enter(body) = code.instr(at) else {
+        return None;
+    };
+    let inner = passage_within(splits, code, *body, here);
+    let price = inner.price.and(inner.saved.count())?;
+    match inner.onward {
+        Onward::Ends => None,
+        Onward::Goes(last) => {
+            let next = stop_at(code, last)?;
+            Some(Passage::alone(price, Onward::Goes(next)))
+        }
+        Onward::Reads(last) => {
+            let next = stop_at(code, last)?;
+            Some(Passage::alone(price, Onward::Reads(next)))
+        }
+    }
+}
+
+/// Where the byte leads from an instruction on, of which the parts so far may tell.
+fn passage_from(splits: &Splits, code: &Code, at: usize, here: u8) -> Passage
+    requires { AreSplits splits.now code.now }
+    ensures { Leads (instrs_of code.now) code.now.meaning here
+        result.price.marks result.price.returns (ways_of result) result.onward at }
+{
+    match past_atom(splits, code, at, here) {
+        Some(passage) => passage,
+        None => passage_within(splits, code, at, here),
     }
 }
 

@@ -61,6 +61,21 @@ impl Price {
         Price::nothing_if(self.is_nothing())
     }
 
+    /// The same with so many choices more that are opened, and not taken back. `None` where they are more than is told.
+    pub(crate) fn and(self, marks: u8) -> Option<Price>
+        ensures { IfSome result
+            (λ p. (p.marks ≡ self.marks + marks) × (p.returns ≡ self.returns)) }
+    {
+        let marks = self.marks as u32 + marks as u32;
+        if marks > MOST as u32 {
+            return None;
+        }
+        Some(Price {
+            marks: marks as u8,
+            returns: self.returns,
+        })
+    }
+
     /// That of a choice of two ways which cost so much. `None` where it is more than is told.
     pub(crate) fn or(self, other: Price) -> Option<Price>
         ensures { IfSome result (λ p. (p.marks ≡ suc (self.marks + other.marks)) × (p.returns ≡ self.returns + suc other.returns)) }

@@ -5,7 +5,7 @@ use Rattle.fancy_prices.specs.declared.splits.ToldPart.{ToldPart}
 use Rattle.fancy_prices.specs.declared.splits.ToldPart.TheVariants.{Choice}
 use Rattle.fancy_prices.specs.Splits.{IsTold}
 use Rattle.fancy_prices.proofs.PassageLemmas.{leads_as, leads_here, leads_nowhere, leads_read}
-use Rattle.fancy_prices.proofs.choices.passage_from.Goals as goal
+use Rattle.fancy_prices.proofs.choices.passage_within.Goals as goal
 
 pub returns-in-Some-Choice : goal.returns-in-Some-Choice
 returns-in-Some-Choice c =
