@@ -2,7 +2,6 @@
 use Rattle.std.proofs.Common.{◌≡◌, ℕ, zero, suc, ◌<◌, Bool, true, false, not, ◌&&◌, ◌||◌, List, [], ◌∷◌, Option, Some, None, IfSome, refl, sym, ap, ap₂, ◌∙◌, subst, arith, true≢false, nat_lt, ◌==◌, ne_eqb, ltb-true, slice_get}
 use Rattle.std.specs.Bool.{beq}
 use Rattle.std.proofs.lemmas.Bool.Decides.{nat_tests}
-use Rattle.std.proofs.lemmas.Option.{same_Some}
 use Rattle.unicode.specs.Perl.{is_word_byte}
 use Rattle.unicode.proofs.PerlLemmas.{is_word_char-ascii}
 use Rattle.fancy_tree.specs.declared.tree.Assertion.{Assertion}
@@ -30,9 +29,6 @@ word_byte : (m : Meaning) (c : ℕ) → c < 128 → in_named_set m Word c ≡ is
 word_byte Unicode c low = sym (unicode_word c (grind (arith, nat_tests))) ∙ is_word_char-ascii c low
 word_byte Bytes c low = sym (ascii_word c)
 word_byte AsciiText c low = sym (ascii_word c)
-
-word_low : (c : ℕ) → is_word_byte c ≡ true → c < 128
-word_low c h = grind (arith, nat_tests)
 
 -- a byte before a byte stands there as well
 get_down : (h : List ℕ) (p b : ℕ) → slice_get h (suc p) ≡ Some b → slice_get h p ≡ None → ⊥
@@ -140,19 +136,6 @@ module _ (f : Facts) (before here : Bool) (tells : TellsBefore f (Some before)) 
   pub end_half_fails : a ≡ WordEndHalf → here ≡ true → holds x a p ≡ false
   unfolding holds
   end_half_fails e word = by_word WordEndHalf e (ap not (is ∙ word))
-
--- a byte that is neither of two
-pub in_line : (k : Before) → IsAlways k (λ b. not (is_line_feed (Some b))) → IsAlways k (λ b. not (is_carriage_return (Some b)))
-    → IsAlways k (λ b. not (is_line_feed (Some b) || is_carriage_return (Some b)))
-in_line k feeds returns o is =
-    let feed = feeds o is in
-    let return = returns o is in
-    let same : return.0 ≡ feed.0 = same_Some return.0 feed.0 (sym return.1 ∙ feed.1) in
-    (feed.0, feed.1, by (is_line_feed (Some feed.0)) (is_carriage_return (Some feed.0)) feed.2 (subst (λ (b : ℕ). not (is_carriage_return (Some b)) ≡ true) same return.2))
-  where
-    by : (a b : Bool) → not a ≡ true → not b ≡ true → not (a || b) ≡ true
-    by true b h g = h
-    by false b h g = g
 
 -- where something stands before it is not the text's start
 not_at_start : (h : List ℕ) (p b : ℕ) → byte_before h p ≡ Some b → (p == 0) ≡ false

@@ -1,5 +1,5 @@
 -- Where bytes lead from choices: one choice more before a passage.
-use Rattle.std.proofs.Common.{◌≡◌, ◌≢◌, ℕ, zero, suc, ◌+◌, List, [], ◌∷◌, length, Option, Some, None, Result, Ok, Err, IfOk, IfSome, refl, sym, ap, subst, arith}
+use Rattle.std.proofs.Common.{◌≡◌, ◌≢◌, ℕ, zero, suc, ◌+◌, List, [], ◌∷◌, length, Option, Some, None, Result, Ok, Err, IfOk, IfSome, refl, sym, subst, arith}
 use Rattle.std.specs.Prelude.{slice_get}
 use Rattle.std.proofs.Math.Logic.{∥∥₁_map}
 use Rattle.fancy_tree.specs.declared.tree.Meaning.{Meaning}
@@ -11,7 +11,7 @@ use Rattle.fancy_prices.specs.declared.choices.Passage.{Passage}
 use Rattle.fancy_prices.specs.declared.choices.ToldChoice.{ToldChoice}
 use Rattle.fancy_prices.specs.declared.price.Price.{Price}
 use Rattle.fancy_prices.specs.Prices.{Dies, IsNothing}
-use Rattle.fancy_prices.specs.Splits.{IsOwn, IsPassageAt, Leads, LeadsBy, LeadsOut, LeadsPast, LeadsTo, Passes, PassesOver, ReadsByte, StopsAt, byte_alone, ways_of}
+use Rattle.fancy_prices.specs.Splits.{IsOwn, IsPassageAt, Leads, LeadsBy, LeadsOut, LeadsPast, LeadsTo, PassesOver, ReadsByte, StopsAt, byte_alone, ways_of}
 use Rattle.fancy_prices.proofs.DyingWays.{dies_split}
 use Rattle.fancy_prices.proofs.PriceForms.{same_price}
 

@@ -11,10 +11,8 @@ use Rattle.fancy_code.specs.Run.{Raw, Note, Stop, choice_opened, returned, fetch
 use Rattle.fancy_meaning.specs.Search.{Query, accepted, answer_at, before_accepted, context_of, first_one, gone_at, gone_through, initial, is_match_boundary, longest_one, trace_at}
 use Rattle.fancy_meaning.specs.Trace.{outcomes}
 use Rattle.fancy_code.proofs.WholeCode.{program_gives}
-use Rattle.fancy_prices.specs.declared.facts.Facts.{Facts}
 use Rattle.fancy_prices.specs.declared.price.Price.{Price}
-use Rattle.fancy_prices.specs.Facts.{Stands}
-use Rattle.fancy_prices.specs.Prices.{MissesIn, Costs, CostsAt, Dies, IsNothing, IsPriceAt}
+use Rattle.fancy_prices.specs.Prices.{MissesIn, Costs, CostsAt, IsNothing, IsPriceAt}
 use Rattle.fancy_prices.proofs.FlagLemmas.{neither, on}
 
 -- without a stop there is no outcome
@@ -68,13 +66,6 @@ costs_counted q code is meant inside p m r le costs =
       marks = ap marks_in (all_gone q p none ∙ sym g.2) ∙ c.1;
       returns = ap returns_in (all_gone q p none ∙ sym g.2) ∙ c.2;
     }
-
--- What is told of p, where an attempt begins: what the code counts there is what the attempt counts.
-pub told_counted : (q : Query) (code : Code) → IsCodeOf q.sought.pattern code → q.sought.meaning ≡ code.meaning → q.request.range_end ≤ length q.haystack
-    → (f : Facts) (p m r : ℕ) → Dies (instrs_of code) code.meaning f m r code.start → p ≤ q.request.range_end → Stands f q.haystack p → IsPriceAt q p m r
-told_counted q code is meant inside f p m r dies le stands =
-    costs_counted q code is meant inside p m r le
-    (dies (context_of q) q.request.range_end (depth (length q.haystack) q.sought.pattern + 1) (initial q p) (replicate code.groups 0) meant stands)
 
 -- no match may begin within a character
 within_character : (on_boundaries : Bool) (h : List ℕ) (p : ℕ) → is_match_boundary on_boundaries h p ≡ false → is_continuation (slice_index h p) ≡ true

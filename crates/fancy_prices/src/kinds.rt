@@ -7,6 +7,7 @@ ghost use Rattle.fancy_bytes.specs.Sets.{member};
 ghost use Rattle.fancy_prices.specs.Kinds.{AreWords};
 
 use crate::free::is_match;
+use crate::splits::only;
 use fancy_bytes::byte_set::ByteSet;
 use fancy_code::code::{Code, Instr};
 use fancy_prefilter::items::is_ascii;
@@ -123,7 +124,7 @@ fn low_members(set: &CharSet) -> ByteSet {
     bytes
 }
 
-/// Splits the sets by whether a byte is in another one, as long as they are few.
+/// Splits the sets by whether a byte is in another one, as long as there are few.
 fn split_by(sets: &mut Vec<ByteSet>, bytes: &ByteSet) -> Result<(), AllocError> {
     let count = sets.len();
     for i in 0..count {
@@ -137,20 +138,13 @@ fn split_by(sets: &mut Vec<ByteSet>, bytes: &ByteSet) -> Result<(), AllocError> 
     Ok(())
 }
 
-/// The same by whether it is one byte.
-fn split_by_byte(sets: &mut Vec<ByteSet>, byte: u8) -> Result<(), AllocError> {
-    let mut bytes = ByteSet::new();
-    bytes.insert(byte);
-    split_by(sets, &bytes)
-}
-
 /// The same by what an assertion tests before a position.
 fn split_by_assertion(sets: &mut Vec<ByteSet>, assertion: Assertion) -> Result<(), AllocError> {
     match assertion {
-        Assertion::LineStart => split_by_byte(sets, b'\n'),
+        Assertion::LineStart => split_by(sets, &only(b'\n')),
         Assertion::LineStartCrlf => {
-            split_by_byte(sets, b'\n')?;
-            split_by_byte(sets, b'\r')
+            split_by(sets, &only(b'\n'))?;
+            split_by(sets, &only(b'\r'))
         }
         Assertion::WordBoundary
         | Assertion::NotWordBoundary
@@ -183,7 +177,7 @@ fn split_by_ends(
                 return split_by_ends(sets, code, *next, deep);
             }
             if (*character as u32) < 0x80 {
-                split_by_byte(sets, *character as u8)
+                split_by(sets, &only(*character as u8))
             } else {
                 split_by(sets, &wide_bytes())
             }
@@ -207,7 +201,8 @@ fn split_by_ends(
     }
 }
 
-/// Sets of bytes that the code does not tell apart where they stand before a position, as far as they are few.
+/// Kinds of bytes that the code does not tell apart where they stand before a position, as far as there are few. No answer rests on it:
+/// where bytes of a kind are told apart after all, less is told of them.
 pub(crate) fn kinds_of(alloc: Global, code: &Code) -> Result<Vec<Kind>, AllocError> {
     let mut sets = Vec::new(alloc);
     sets.push(ByteSet::all())?;

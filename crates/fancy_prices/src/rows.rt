@@ -123,11 +123,6 @@ impl Row {
         let costly = costly_of(&prices);
         Row { prices, costly }
     }
-
-    /// Whether something is told. No answer rests on it.
-    fn tells_some(&self) -> bool {
-        tells_some(&self.prices)
-    }
 }
 
 /// The numbers, with this one for each byte of the set.
@@ -262,7 +257,7 @@ impl Rows {
     /// Whether something is told. No answer rests on it.
     pub(crate) fn tell_some(&self) -> bool {
         for row in &self.rows {
-            if row.tells_some() {
+            if tells_some(&row.prices) {
                 return true;
             }
         }

@@ -98,7 +98,7 @@ pub struct Splits {
 }
 
 /// The set of one byte.
-fn only(byte: u8) -> ByteSet
+pub(crate) fn only(byte: u8) -> ByteSet
     ensures { IsSetOf (λ b. b == byte) result }
 {
     let mut bytes = ByteSet::new();
