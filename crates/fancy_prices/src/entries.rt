@@ -42,6 +42,8 @@ struct Told {
     bytes: Scan,
     /// What attempts cost by what stands before, and the byte at which they are made.
     rows: Rows,
+    /// Whether some of them cost something.
+    priced: bool,
     // what attempts cost by the byte before the one before their position; none where it tells nothing
     behind: Option<[Option<Price>; 256]>,
 }
@@ -91,11 +93,13 @@ impl Told {
         requires { place < length haystack.now }
         ensures { IfSome result (IsToldOf (is_told (Some self.now)) haystack.now place) }
     {
-        let row = self.rows.before(haystack, place);
-        match row.prices[haystack[place] as usize] {
-            Some(price) => Some(price),
-            None => self.price_behind(haystack, place),
+        if self.priced {
+            let row = self.rows.before(haystack, place);
+            if let Some(price) = row.prices[haystack[place] as usize] {
+                return Some(price);
+            }
         }
+        self.price_behind(haystack, place)
     }
 
     /// Whether an attempt costs something, or may find a match, at a place.
@@ -180,11 +184,13 @@ impl Entries {
         if !rows.tell_some() {
             return Ok(Entries::all());
         }
+        let priced = rows.cost_some();
         let bytes = rows.costly_bytes();
         let behind = prices_behind(code);
         let told = Told {
             bytes: Scan::new(bytes),
             rows,
+            priced,
             behind,
         };
         Ok(Entries {

@@ -37,6 +37,18 @@ pub(crate) struct Rows {
     ghost numbered: { (b : ℕ) → b < 256 → slice_index numbers b < vec_len rows },
 }
 
+/// Whether a row tells of an attempt that costs something. No answer rests on it.
+fn costs_some(row: &[Option<Price>; 256]) -> bool {
+    for price in row {
+        if let Some(price) = price {
+            if !price.is_nothing() {
+                return true;
+            }
+        }
+    }
+    false
+}
+
 /// Whether a row tells something. No answer rests on it.
 pub(crate) fn tells_some(row: &[Option<Price>; 256]) -> bool {
     for price in row {
@@ -252,6 +264,16 @@ impl Rows {
             }
         }
         bytes
+    }
+
+    /// Whether an attempt is told that costs something. No answer rests on it.
+    pub(crate) fn cost_some(&self) -> bool {
+        for row in &self.rows {
+            if costs_some(&row.prices) {
+                return true;
+            }
+        }
+        false
     }
 
     /// Whether something is told. No answer rests on it.
