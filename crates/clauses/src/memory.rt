@@ -32,9 +32,9 @@ pub fn heeds(
 ) -> Result<Option<Found>, SearchRefusal>
     ghost q: { Query }
     requires asks { Asks q asked.now haystack.now }
-    requires room { HasRoom (returns_of work.old) asked.now.options.backtrack_limit }
+    requires room { HasRoom (returns_of work.old) asked.now.options.now.backtrack_limit }
     requires kept { is_kept ≡ true → KnowsLastLines haystack.now (lines_held cache.old) }
-    ensures heeds { HeedsLimit asked.now.options.stack_limit cache.old cache.new }
+    ensures heeds { HeedsLimit asked.now.options.now.stack_limit cache.old cache.new }
 {
     search(asked, haystack, is_kept, cache, work)
 }

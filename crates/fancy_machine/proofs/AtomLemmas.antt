@@ -54,7 +54,7 @@ module _ (a : Attempt) (t : ToldAtom) (h : Held) (is : IsToldAtom (instrs_of a.c
       let now = ap size_of known in
       let old = ap size_of s.known in (
         subst (λ (j : ℕ). Seeks a deep goal total choices new best j) same
-            (seeks_on a.options.longest (accepts a) goal total choices best r _ h.frames s m k _ new.frames rest known passed le),
+            (seeks_on a.options.now.longest (accepts a) goal total choices best r _ h.frames s m k _ new.frames rest known passed le),
         omega (arith, now, old, less),
       )
 
@@ -126,7 +126,7 @@ module _ (a : Attempt) (t : ToldAtom) (h : Held) (is : IsToldAtom (instrs_of a.c
           goes_to (whole.count + 1) 1 out.0 out.2 (omega (arith, out.2.shorter)) new (ap₂ (left (code_in a deep)) now frames ∙ out.1) (omega (arith, saves)) u one
 
       pub returns_out : r + 1 ≤ total
-      returns_out = returns_to_come a.options.longest (accepts a) goal total choices best r _ h.frames s (whole.count + 1) 1 _ h.frames out.0 out.1 out.2
+      returns_out = returns_to_come a.options.now.longest (accepts a) goal total choices best r _ h.frames s (whole.count + 1) 1 _ h.frames out.0 out.1 out.2
 
       pub choices_out : saved h.frames + (whole.count + 1) ≤ choices
-      choices_out = choices_to_come a.options.longest (accepts a) goal total choices best r _ h.frames s (whole.count + 1) 1 _ h.frames out.0 out.1 out.2
+      choices_out = choices_to_come a.options.now.longest (accepts a) goal total choices best r _ h.frames s (whole.count + 1) 1 _ h.frames out.0 out.1 out.2

@@ -119,16 +119,16 @@ module _ (a : Attempt) (c : ToldChoice) (h : Held) (is : IsToldChoice (instrs_of
 
     goes_on : (new : Held) → left (code_in a deep) new.now new.frames ≡ Some rest → saved new.frames ≤ saved h.frames + m → Advanced a deep goal total choices (size_ahead a deep h) On new best (r + u)
     goes_on new known le = (
-      subst (λ (i : ℕ). Seeks a deep goal total choices new best i) same_returns (seeks_on a.options.longest (accepts a) goal total choices best r _ h.frames s m t _ new.frames rest known passed le),
-      fewer_on a.options.longest (accepts a) goal total choices best r _ h.frames s m t _ new.frames rest known passed some,
+      subst (λ (i : ℕ). Seeks a deep goal total choices new best i) same_returns (seeks_on a.options.now.longest (accepts a) goal total choices best r _ h.frames s m t _ new.frames rest known passed le),
+      fewer_on a.options.now.longest (accepts a) goal total choices best r _ h.frames s m t _ new.frames rest known passed some,
     )
 
     dies_off : (new : Held) → finish (code_in a deep) new.frames (Some []) ≡ Some rest → saved new.frames ≤ saved h.frames + m
         → Advanced a deep goal total choices (size_ahead a deep h) Dead new best (r + u)
     dies_off new known le = (
       subst (λ (i : ℕ). SeeksBack a deep goal total choices new best i) same_returns
-          (seeks_on a.options.longest (accepts a) goal total choices best r _ h.frames s m t _ new.frames rest known passed le),
-      fewer_on a.options.longest (accepts a) goal total choices best r _ h.frames s m t _ new.frames rest known passed some,
+          (seeks_on a.options.now.longest (accepts a) goal total choices best r _ h.frames s m t _ new.frames rest known passed le),
+      fewer_on a.options.now.longest (accepts a) goal total choices best r _ h.frames s m t _ new.frames rest known passed some,
     )
 
   -- the choice by itself
@@ -143,7 +143,7 @@ module _ (a : Attempt) (c : ToldChoice) (h : Held) (is : IsToldChoice (instrs_of
 
   pub one_ahead : saved h.frames + 1 ≤ choices
   one_ahead =
-      let all = choices_to_come a.options.longest (accepts a) goal total choices best r _ h.frames s 1 0 _ h.frames own.0 own.1 own.2 in
+      let all = choices_to_come a.options.now.longest (accepts a) goal total choices best r _ h.frames s 1 0 _ h.frames own.0 own.1 own.2 in
       omega (arith, all)
 
   -- where a passage leads
@@ -188,20 +188,20 @@ module _ (a : Attempt) (c : ToldChoice) (h : Held) (is : IsToldChoice (instrs_of
     pub returns_ahead : r + returns ≤ total
     returns_ahead = by p.onward led where
       by : (o : Onward) → Led marks returns ways o → r + returns ≤ total
-      by Ends l = returns_to_come a.options.longest (accepts a) goal total choices best r _ h.frames s marks returns _ h.frames l.1.0 l.1.1 l.1.2
-      by (Goes to) l = returns_to_come a.options.longest (accepts a) goal total choices best r _ h.frames s (marks + length ways) returns _ (saved_ways ways h.now h.frames) l.0 l.1 l.2
-      by (Reads to) l = returns_to_come a.options.longest (accepts a) goal total choices best r _ h.frames s (marks + length ways) returns _ (saved_ways ways h.now h.frames) l.0 l.1 l.2
+      by Ends l = returns_to_come a.options.now.longest (accepts a) goal total choices best r _ h.frames s marks returns _ h.frames l.1.0 l.1.1 l.1.2
+      by (Goes to) l = returns_to_come a.options.now.longest (accepts a) goal total choices best r _ h.frames s (marks + length ways) returns _ (saved_ways ways h.now h.frames) l.0 l.1 l.2
+      by (Reads to) l = returns_to_come a.options.now.longest (accepts a) goal total choices best r _ h.frames s (marks + length ways) returns _ (saved_ways ways h.now h.frames) l.0 l.1 l.2
 
     pub choices_ahead : saved h.frames + length ways ≤ choices
     choices_ahead = by p.onward led where
       by : (o : Onward) → Led marks returns ways o → saved h.frames + length ways ≤ choices
       by Ends l =
           let none = ap length l.0 in
-          let all = choices_to_come a.options.longest (accepts a) goal total choices best r _ h.frames s marks returns _ h.frames l.1.0 l.1.1 l.1.2 in
+          let all = choices_to_come a.options.now.longest (accepts a) goal total choices best r _ h.frames s marks returns _ h.frames l.1.0 l.1.1 l.1.2 in
           omega (arith, all, none)
       by (Goes to) l =
-          let all = choices_to_come a.options.longest (accepts a) goal total choices best r _ h.frames s (marks + length ways) returns _ h.frames l.0 l.1 l.2 in
+          let all = choices_to_come a.options.now.longest (accepts a) goal total choices best r _ h.frames s (marks + length ways) returns _ h.frames l.0 l.1 l.2 in
           omega (arith, all)
       by (Reads to) l =
-          let all = choices_to_come a.options.longest (accepts a) goal total choices best r _ h.frames s (marks + length ways) returns _ h.frames l.0 l.1 l.2 in
+          let all = choices_to_come a.options.now.longest (accepts a) goal total choices best r _ h.frames s (marks + length ways) returns _ h.frames l.0 l.1 l.2 in
           omega (arith, all)

@@ -105,7 +105,7 @@ boundary_at h p b stands none =
 
 module _ (q : Query) (a : Attempt) (serves : Serves a q) (some : ∥ IsCodeOf q.sought.pattern a.code.now ∥₁) (inside : q.request.range_end ≤ length q.haystack)
     (last : ℕ) (ends : last ≤ q.request.range_end) (f : Front) (fronted : IsFront a.splits.now a.code.now a.code.now.start f)
-    (l : ToldSplit) (noted : IsNoted a.splits.now f.at l) (whole : a.options.on_boundaries ≡ true → f.whole ≡ true) where
+    (l : ToldSplit) (noted : IsNoted a.splits.now f.at l) (whole : a.options.now.on_boundaries ≡ true → f.whole ≡ true) where
   told : IsToldSplit (instrs_of a.code.now) a.code.now.meaning f.at l
   told = a.told _ _ _ noted.1 noted.2
 
@@ -126,7 +126,7 @@ module _ (q : Query) (a : Attempt) (serves : Serves a q) (some : ∥ IsCodeOf q.
         run_costs (instrs_of a.code.now) a.code.now.meaning f.at l told (told.apart dead.apart) dead.alone (context_of q) q.request.range_end meant m d last (moved_to (initial q p) (p + 1)) w
         (dead_rest l q.haystack last p m dead) ends))
 
-    may_be : (b : Bool) → a.options.on_boundaries ≡ b → is_match_boundary b q.haystack p ≡ true
+    may_be : (b : Bool) → a.options.now.on_boundaries ≡ b → is_match_boundary b q.haystack p ≡ true
     may_be false e = refl
     may_be true e = boundary_at q.haystack p first.0 first.1 ((fronted l noted).1 (whole e) first.0 first.2 first.3)
 

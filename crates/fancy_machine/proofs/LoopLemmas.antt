@@ -40,16 +40,16 @@ module _ (a : Attempt) (l : ToldSplit) (h : Held) (run : Run) (is : IsToldSplit 
       goes_on : (new : Held) → left (code_in a deep) new.now new.frames ≡ Some rest → saved new.frames ≤ saved h.frames + m → Advanced a deep goal total choices (size_ahead a deep h) On new best (r + u)
       goes_on new known le = (
         subst (λ (i : ℕ). Seeks a deep goal total choices new best i) same_returns
-            (seeks_on a.options.longest (accepts a) goal total choices best r _ h.frames s m t _ new.frames rest known passed le),
-        fewer_on a.options.longest (accepts a) goal total choices best r _ h.frames s m t _ new.frames rest known passed some,
+            (seeks_on a.options.now.longest (accepts a) goal total choices best r _ h.frames s m t _ new.frames rest known passed le),
+        fewer_on a.options.now.longest (accepts a) goal total choices best r _ h.frames s m t _ new.frames rest known passed some,
       )
 
       dies_off : (new : Held) → finish (code_in a deep) new.frames (Some []) ≡ Some rest → saved new.frames ≤ saved h.frames + m
           → Advanced a deep goal total choices (size_ahead a deep h) Dead new best (r + u)
       dies_off new known le = (
         subst (λ (i : ℕ). SeeksBack a deep goal total choices new best i) same_returns
-            (seeks_on a.options.longest (accepts a) goal total choices best r _ h.frames s m t _ new.frames rest known passed le),
-        fewer_on a.options.longest (accepts a) goal total choices best r _ h.frames s m t _ new.frames rest known passed some,
+            (seeks_on a.options.now.longest (accepts a) goal total choices best r _ h.frames s m t _ new.frames rest known passed le),
+        fewer_on a.options.now.longest (accepts a) goal total choices best r _ h.frames s m t _ new.frames rest known passed some,
       )
 
     module _ (alone : 0 < n → l.group ≡ None) where
@@ -67,7 +67,7 @@ module _ (a : Attempt) (l : ToldSplit) (h : Held) (run : Run) (is : IsToldSplit 
           goes_on (n + 1) 0 past.0 past.2 (omega arith) t none new (ap₂ (left (code_in a deep)) now f ∙ past.1) (omega (arith, saves, saved_by_run l.second h.now.state.place (suc n) h.now h.frames))
 
       pub many_choices : saved h.frames + (n + 1) ≤ choices
-      many_choices = choices_to_come a.options.longest (accepts a) goal total choices best r _ h.frames s (n + 1) 0 _ h.frames past.0 past.1 past.2
+      many_choices = choices_to_come a.options.now.longest (accepts a) goal total choices best r _ h.frames s (n + 1) 0 _ h.frames past.0 past.1 past.2
 
     module _ (stuck : run.is_stuck ≡ true) where
       -- what follows the loop closes the region
@@ -82,7 +82,7 @@ module _ (a : Attempt) (l : ToldSplit) (h : Held) (run : Run) (is : IsToldSplit 
       pub choices_stuck : saved h.frames + (n + 1) ≤ choices
       choices_stuck = by run.closes refl where
         by : (c : Bool) → run.closes ≡ c → saved h.frames + (n + 1) ≤ choices
-        by true e = let b = shut e in choices_to_come a.options.longest (accepts a) goal total choices best r _ h.frames s (n + 1) 1 _ h.frames b.0 b.1 b.2
+        by true e = let b = shut e in choices_to_come a.options.now.longest (accepts a) goal total choices best r _ h.frames s (n + 1) 1 _ h.frames b.0 b.1 b.2
         by false e = many_choices (read.stays e)
 
       -- it goes back to the place k
@@ -120,7 +120,7 @@ module _ (a : Attempt) (l : ToldSplit) (h : Held) (run : Run) (is : IsToldSplit 
             goes_on (n + 1) (1 + (n - k)) back.0 back.2 (omega arith) t count new (ap₂ (left (code_in a deep)) now frames ∙ back.1) (omega (arith, saves, back.3))
 
         pub returns_back : r + (1 + (n - k)) ≤ total
-        returns_back = returns_to_come a.options.longest (accepts a) goal total choices best r _ h.frames s (n + 1) (1 + (n - k)) _ h.frames back.0 back.1 back.2
+        returns_back = returns_to_come a.options.now.longest (accepts a) goal total choices best r _ h.frames s (n + 1) (1 + (n - k)) _ h.frames back.0 back.1 back.2
 
       -- what follows dies at each place
       module _ (stays : run.closes ≡ true → 0 ≡ n + 1) (dies : DieFrom l a.haystack.now h.now.state.place 0 (n + 1)) where
@@ -139,4 +139,4 @@ module _ (a : Attempt) (l : ToldSplit) (h : Held) (run : Run) (is : IsToldSplit 
             dies_off (n + 1) (n + 1) dead.0 dead.2 (omega arith) t count new (ap (λ (fs : List Frame). finish (code_in a deep) fs (Some [])) frames ∙ dead.1) (omega (arith, saves))
 
         pub returns_dead : r + (n + 1) ≤ total
-        returns_dead = returns_to_come a.options.longest (accepts a) goal total choices best r _ h.frames s (n + 1) (n + 1) _ h.frames dead.0 dead.1 dead.2
+        returns_dead = returns_to_come a.options.now.longest (accepts a) goal total choices best r _ h.frames s (n + 1) (n + 1) _ h.frames dead.0 dead.1 dead.2

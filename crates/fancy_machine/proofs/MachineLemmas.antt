@@ -201,22 +201,22 @@ module _ (a : Attempt) (old : Held) (best : Option State) (new : Held) (now : Op
     same : r ≡ r + t
     same = omega (arith, none)
 
-    by : (n : Next) → Turned (code_in a deep) a.options.longest (accepts a) n s.rest best old.frames new.now now new.frames
+    by : (n : Next) → Turned (code_in a deep) a.options.now.longest (accepts a) n s.rest best old.frames new.now now new.frames
         → Advanced a deep goal total choices (size_ahead a deep old) n new now (r + t)
     by On u = (
-      subst (Seeks a deep goal total choices new now) same (search_on (code_in a deep) a.options.longest (accepts a) goal total choices old.now old.frames best r s new.now new.frames now u),
-      smaller_on (code_in a deep) a.options.longest (accepts a) goal total choices old.now old.frames best r s new.now new.frames now u,
+      subst (Seeks a deep goal total choices new now) same (search_on (code_in a deep) a.options.now.longest (accepts a) goal total choices old.now old.frames best r s new.now new.frames now u),
+      smaller_on (code_in a deep) a.options.now.longest (accepts a) goal total choices old.now old.frames best r s new.now new.frames now u,
     )
     by Dead u = (
-      subst (SeeksBack a deep goal total choices new now) same (search_dead (code_in a deep) a.options.longest (accepts a) goal total choices old.now old.frames best r s new.now new.frames now u),
-      smaller_dead (code_in a deep) a.options.longest (accepts a) goal total choices old.now old.frames best r s new.now new.frames now u,
+      subst (SeeksBack a deep goal total choices new now) same (search_dead (code_in a deep) a.options.now.longest (accepts a) goal total choices old.now old.frames best r s new.now new.frames now u),
+      smaller_dead (code_in a deep) a.options.now.longest (accepts a) goal total choices old.now old.frames best r s new.now new.frames now u,
     )
     by Found u =
-        let found = search_found (code_in a deep) a.options.longest (accepts a) goal total choices old.now old.frames best r s new.now new.frames now u in
+        let found = search_found (code_in a deep) a.options.now.longest (accepts a) goal total choices old.now old.frames best r s new.now new.frames now u in
         (found.0, omega (arith, found.1, same))
 
   pub overfull : IsFull a old → old.most < choices
-  overfull full = search_crowded (code_in a deep) a.options.longest (accepts a) old.most goal total choices old.now old.frames best r s (full deep s.rest s.known)
+  overfull full = search_crowded (code_in a deep) a.options.now.longest (accepts a) old.most goal total choices old.now old.frames best r s (full deep s.rest s.known)
 
   -- it took no more returns than it takes in all
   pub taken : r ≤ total
@@ -228,14 +228,14 @@ module _ (a : Attempt) (limit : ℕ) (old mid new : Held) (before between after 
   goes_back_then (Err e) took = tt
   goes_back_then (Ok false) took = λ deep goal total choices r best s.
       let p = passes deep goal total choices r best s in
-      let end = search_end (code_in a deep) a.options.longest (accepts a) goal total choices mid.frames best _ p.0 took.0 in
+      let end = search_end (code_in a deep) a.options.now.longest (accepts a) goal total choices mid.frames best _ p.0 took.0 in
       (end.0, omega (arith, end.1, ap returns_of took.1))
   goes_back_then (Ok true) took = λ deep goal total choices r best s.
       let p = passes deep goal total choices r best s in
       let same : r + (returns_of between - returns_of before) + 1 ≡ r + (returns_of after - returns_of before) = omega (arith, ap returns_of took.2, le) in (
         subst (λ (u : ℕ). Seeks a deep goal total choices new best u) same
-            (search_back (code_in a deep) a.options.longest (accepts a) goal total choices mid.frames best _ p.0 new.now new.frames took.0),
-        omega (arith, p.1, smaller_back (code_in a deep) a.options.longest (accepts a) goal total choices mid.frames best _ p.0 new.now new.frames took.0),
+            (search_back (code_in a deep) a.options.now.longest (accepts a) goal total choices mid.frames best _ p.0 new.now new.frames took.0),
+        omega (arith, p.1, smaller_back (code_in a deep) a.options.now.longest (accepts a) goal total choices mid.frames best _ p.0 new.now new.frames took.0),
       )
 
   pub back_takes_then : BackTakes a (returns_of before) (returns_of between) old → (o : Result Bool SearchRefusal) → TookBranch o limit mid new between after → BackTakes a (returns_of before) (returns_of after) old
@@ -244,12 +244,12 @@ module _ (a : Attempt) (limit : ℕ) (old mid new : Held) (before between after 
   back_takes_then takes (Ok false) took = λ deep goal total choices best s. omega (arith, takes deep goal total choices best s, ap returns_of took.1)
   back_takes_then takes (Ok true) took = λ deep goal total choices best s.
       let p = passes deep goal total choices (returns_of before) best s in
-      let on = search_back (code_in a deep) a.options.longest (accepts a) goal total choices mid.frames best _ p.0 new.now new.frames took.0 in
+      let on = search_back (code_in a deep) a.options.now.longest (accepts a) goal total choices mid.frames best _ p.0 new.now new.frames took.0 in
       omega (arith, on.count, ap returns_of took.2, le)
 
   pub back_refused_then : (o : Result Bool SearchRefusal) → TookBranch o limit mid new between after → o ≡ Err Returns → BackTakes a (returns_of before) (limit + 1) old
   back_refused_then o took e = λ deep goal total choices best s.
       let k = backed_err Returns limit mid new between after (subst (λ (r : Result Bool SearchRefusal). TookBranch r limit mid new between after) e took) in
       let p = passes deep goal total choices (returns_of before) best s in
-      let lt = search_refused (code_in a deep) a.options.longest (accepts a) goal total choices mid.frames best _ p.0 k.0 in
+      let lt = search_refused (code_in a deep) a.options.now.longest (accepts a) goal total choices mid.frames best _ p.0 k.0 in
       omega (arith, lt, k.1, le)

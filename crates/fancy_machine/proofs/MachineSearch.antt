@@ -175,7 +175,7 @@ module _ (q : Query) (a : Attempt) (is : IsCodeOf q.sought.pattern a.code.now) (
   -- where the position is admitted, the machine accepts what the query accepts
   accepts_is : (p : ℕ) → admits q p ≡ true → (s : State) → accepts a s ≡ accepted q p s
   accepts_is p may s =
-      ap (λ (h : List ℕ). within a.options.on_boundaries h a.options.not_empty) (served_text q a serves)
+      ap (λ (h : List ℕ). within a.options.now.on_boundaries h a.options.now.not_empty) (served_text q a serves)
       ∙ ap₂ (λ (b n : Bool). within b q.haystack n) serves.on_boundaries serves.not_empty
       ∙ sym (ap (λ (b : Bool). b && (admits q s.kept && (admits q s.place && (not q.sought.not_empty || not (s.kept == s.place))))) may) where
         good : Bool → List ℕ → ℕ → Bool
@@ -185,21 +185,21 @@ module _ (q : Query) (a : Attempt) (is : IsCodeOf q.sought.pattern a.code.now) (
         within b h n = good b h s.kept && (good b h s.place && (not n || not (s.kept == s.place)))
 
   module _ (p : ℕ) (may : admits q p ≡ true) where
-    pub answer_is : taken_outcome a.options.longest (accepts a) None (trace_at q p) ≡ answer_at q p
+    pub answer_is : taken_outcome a.options.now.longest (accepts a) None (trace_at q p) ≡ answer_at q p
     unfolding answer_at outcomes
     answer_is =
-        chosen_is (accepts a) (accepted q p) (accepts_is p may) a.options.longest (trace_at q p)
+        chosen_is (accepts a) (accepted q p) (accepts_is p may) a.options.now.longest (trace_at q p)
         ∙ ap (λ (b : Bool). if b then (longest_one (filter (accepted q p) (outcomes_at q p))) else (first_one (filter (accepted q p) (outcomes_at q p)))) serves.longest
 
-    through : (if a.options.longest then trace_at q p else before_accepted (accepted q p) (trace_at q p)) ≡ gone_through q p
+    through : (if a.options.now.longest then trace_at q p else before_accepted (accepted q p) (trace_at q p)) ≡ gone_through q p
     unfolding gone_through
     through = ap (λ (b : Bool). if b then trace_at q p else before_accepted (accepted q p) (trace_at q p)) serves.longest
 
-    pub returns_here : returns_to (final a.options.longest (accepts a)) (trace_at q p) ≡ returns_in (gone_through q p)
-    returns_here = returns_is (accepts a) (accepted q p) (accepts_is p may) a.options.longest (trace_at q p) ∙ ap returns_in through
+    pub returns_here : returns_to (final a.options.now.longest (accepts a)) (trace_at q p) ≡ returns_in (gone_through q p)
+    returns_here = returns_is (accepts a) (accepted q p) (accepts_is p may) a.options.now.longest (trace_at q p) ∙ ap returns_in through
 
-    pub marks_here : marks_to (final a.options.longest (accepts a)) (trace_at q p) ≡ marks_in (gone_through q p)
-    marks_here = marks_is (accepts a) (accepted q p) (accepts_is p may) a.options.longest (trace_at q p) ∙ ap marks_in through
+    pub marks_here : marks_to (final a.options.now.longest (accepts a)) (trace_at q p) ≡ marks_in (gone_through q p)
+    marks_here = marks_is (accepts a) (accepted q p) (accepts_is p may) a.options.now.longest (trace_at q p) ∙ ap marks_in through
 
 -- what an attempt at p alone finds and goes through
 module _ (q : Query) (p : ℕ) where
@@ -224,7 +224,7 @@ IsKnown-prop None = ⊥_prop
 IsKnown-prop (Some w) = Unit-prop
 
 -- the machine tests as the query does whether a match may begin at p
-pub admits_is : (q : Query) (a : Attempt) → Serves a q → (p : ℕ) → is_match_boundary a.options.on_boundaries a.haystack.now p ≡ admits q p
+pub admits_is : (q : Query) (a : Attempt) → Serves a q → (p : ℕ) → is_match_boundary a.options.now.on_boundaries a.haystack.now p ≡ admits q p
 admits_is q a serves p = ap₂ (λ (b : Bool) (h : List ℕ). is_match_boundary b h p) serves.on_boundaries (served_text q a serves)
 
 -- What an attempt at p finds and counts, which begins at x.
@@ -250,9 +250,9 @@ module _ (q : Query) (a : Attempt) (some : ∥ IsCodeOf q.sought.pattern a.code.
   pub begun_from : Begun q a p x
   begun_from = record {
     known = ∥∥₁_elim some (IsKnown-prop _) (λ is. (begins is).0);
-    answer = ∥∥₁_elim some (hlevel props) (λ is. ap (taken_outcome a.options.longest (accepts a) None) (begins is).1 ∙ answer_is q a is groups inside serves p may);
-    returns = ∥∥₁_elim some (hlevel props) (λ is. ap (returns_to (final a.options.longest (accepts a))) (begins is).1 ∙ returns_here q a is groups inside serves p may ∙ sym (ap returns_in (through_here q p may)));
-    marks = ∥∥₁_elim some (hlevel props) (λ is. ap (marks_to (final a.options.longest (accepts a))) (begins is).1 ∙ marks_here q a is groups inside serves p may ∙ sym (ap marks_in (through_here q p may)));
+    answer = ∥∥₁_elim some (hlevel props) (λ is. ap (taken_outcome a.options.now.longest (accepts a) None) (begins is).1 ∙ answer_is q a is groups inside serves p may);
+    returns = ∥∥₁_elim some (hlevel props) (λ is. ap (returns_to (final a.options.now.longest (accepts a))) (begins is).1 ∙ returns_here q a is groups inside serves p may ∙ sym (ap returns_in (through_here q p may)));
+    marks = ∥∥₁_elim some (hlevel props) (λ is. ap (marks_to (final a.options.now.longest (accepts a))) (begins is).1 ∙ marks_here q a is groups inside serves p may ∙ sym (ap marks_in (through_here q p may)));
   }
 
 -- what is asked stands in the arguments of a search

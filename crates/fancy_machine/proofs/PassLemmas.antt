@@ -298,14 +298,14 @@ module _ (a : Attempt) where
         let before = ap size_of s.known in
         let now = ap size_of d.1 in (
           subst (λ (u : ℕ). SeeksBack a deep goal total choices new best u) same
-              (seeks_on a.options.longest (accepts a) goal total choices best r _ old.frames s 0 n _ new.frames d.0 d.1 d.2 (omega (arith, fewer_saved n old.frames new.frames dies))),
+              (seeks_on a.options.now.longest (accepts a) goal total choices best r _ old.frames s 0 n _ new.frames d.0 d.1 d.2 (omega (arith, fewer_saved n old.frames new.frames dies))),
           omega (arith, d.2.shorter, before, now),
         )
 
     pub back_takes : (before returns : ℕ) → returns ≤ before + n → BackTakes a before returns old
     back_takes before returns le deep goal total choices best s =
         let d = branches_die deep n old.frames new.frames s.rest s.known dies in
-        omega (arith, le, returns_to_come a.options.longest (accepts a) goal total choices best before _ old.frames s 0 n _ new.frames d.0 d.1 d.2)
+        omega (arith, le, returns_to_come a.options.now.longest (accepts a) goal total choices best before _ old.frames s 0 n _ new.frames d.0 d.1 d.2)
 
 -- one more item of a run
 pub one_more_item : (l : ToldSplit) (h : List ℕ) (p q : ℕ) → p ≤ q → q < length h → HasItems l h p (q - p) → slice_index h q < 256 → member l.items (slice_index h q) ≡ true → HasItems l h p (q + 1 - p)

@@ -21,7 +21,7 @@ use Rattle.fancy_machine.specs.Parts.{HeedsLimits, KeepsCounts}
 
 -- The query is what is asked of the haystack, by the code of its pattern. What is told of attempts with that is true.
 pub record Asks (q : Query) (asked : Asked) (haystack : List ℕ) : Type 0 where
-  pub query : q ≡ query_of q.sought.pattern asked.code.now asked.options haystack asked.request asked.continues
+  pub query : q ≡ query_of q.sought.pattern asked.code.now asked.options.now haystack asked.request asked.continues
   pub code : ∥ IsCodeOf q.sought.pattern asked.code.now ∥₁
   pub inside : asked.request.range_end ≤ length haystack
   pub prices : ArePrices asked.prices.now asked.code.now
@@ -29,9 +29,9 @@ pub record Asks (q : Query) (asked : Asked) (haystack : List ℕ) : Type 0 where
 -- the attempt sees what the query shows, and accepts by the same options
 pub record Serves (a : Attempt) (q : Query) : Type 0 where
   pub context : attempt_context a ≡ context_of q
-  pub on_boundaries : a.options.on_boundaries ≡ q.sought.on_boundaries
-  pub not_empty : a.options.not_empty ≡ q.sought.not_empty
-  pub longest : a.options.longest ≡ q.sought.longest
+  pub on_boundaries : a.options.now.on_boundaries ≡ q.sought.on_boundaries
+  pub not_empty : a.options.now.not_empty ≡ q.sought.not_empty
+  pub longest : a.options.now.longest ≡ q.sought.longest
 
 -- the attempt at a position i is one of the query, up to the end of its range
 pub record IsAsked (q : Query) (a : Attempt) (range_end i : ℕ) : Type 0 where

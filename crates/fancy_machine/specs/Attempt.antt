@@ -36,8 +36,8 @@ attempt_context a = record {
 -- whether an outcome is accepted
 abbrev pub accepts : Attempt → State → Bool
 accepts a s =
-    let stands = is_match_boundary a.options.on_boundaries a.haystack.now in
-    stands s.kept && (stands s.place && (not a.options.not_empty || not (s.kept == s.place)))
+    let stands = is_match_boundary a.options.now.on_boundaries a.haystack.now in
+    stands s.kept && (stands s.place && (not a.options.now.not_empty || not (s.kept == s.place)))
 
 -- what the code gives where consumed text ends by a limit, at most so many instructions deep
 abbrev pub code_in : Attempt → ℕ → ℕ → Go
@@ -65,7 +65,7 @@ IsFullFor a j h = instr_at (instrs_of a.code.now) h.now.at ≡ instr_in a.code.n
 abbrev pub TurnsTo : Attempt → Next → Held → Option State → Held → Option State → Type 0
 TurnsTo a next old best new now =
     (deep : ℕ) (w : List Raw) → left (code_in a deep) old.now old.frames ≡ Some w
-    → Turned (code_in a deep) a.options.longest (accepts a) next w best old.frames new.now now new.frames
+    → Turned (code_in a deep) a.options.now.longest (accepts a) next w best old.frames new.now now new.frames
 
 -- the events of the attempt that begins at x, as the pattern has them
 abbrev pub events_from : Attempt → ℕ → Spot → List Event
@@ -73,25 +73,25 @@ events_from a deep x = events_of (after (code_in a deep) x)
 
 -- the outcome that it takes
 abbrev pub outcome_from : Attempt → ℕ → Spot → Option State
-outcome_from a deep x = taken_outcome a.options.longest (accepts a) None (events_from a deep x)
+outcome_from a deep x = taken_outcome a.options.now.longest (accepts a) None (events_from a deep x)
 
 -- the returns up to it, and the marks
 abbrev pub returns_from : Attempt → ℕ → Spot → ℕ
-returns_from a deep x = returns_to (final a.options.longest (accepts a)) (events_from a deep x)
+returns_from a deep x = returns_to (final a.options.now.longest (accepts a)) (events_from a deep x)
 
 abbrev pub marks_from : Attempt → ℕ → Spot → ℕ
-marks_from a deep x = marks_to (final a.options.longest (accepts a)) (events_from a deep x)
+marks_from a deep x = marks_to (final a.options.now.longest (accepts a)) (events_from a deep x)
 
 -- What an attempt still has before it, from where its trail stands, with the best outcome and the returns so far: this answer, so many returns in
 -- all, and so many choices at most.
 abbrev pub Seeks : Attempt → ℕ → Option State → ℕ → ℕ → Held → Option State → ℕ → Type 0
 Seeks a deep goal total choices h best returns =
-    Searching a.options.longest (accepts a) goal total choices (left (code_in a deep) h.now h.frames) h.frames best returns
+    Searching a.options.now.longest (accepts a) goal total choices (left (code_in a deep) h.now h.frames) h.frames best returns
 
 -- the same where the way of its trail is dead, and what was saved is left
 abbrev pub SeeksBack : Attempt → ℕ → Option State → ℕ → ℕ → Held → Option State → ℕ → Type 0
 SeeksBack a deep goal total choices h best returns =
-    Searching a.options.longest (accepts a) goal total choices (finish (code_in a deep) h.frames (Some [])) h.frames best returns
+    Searching a.options.now.longest (accepts a) goal total choices (finish (code_in a deep) h.frames (Some [])) h.frames best returns
 
 -- how much is before it, and how much where the way is dead
 abbrev pub size_ahead : Attempt → ℕ → Held → ℕ

@@ -29,7 +29,7 @@ StandsInRun a f end p n = (l : ToldSplit) × IsNoted a.splits.now f.at l × IsDe
 -- These items of such a run may be passed over, since a match may begin at each.
 pub record MayPass (a : Attempt) (f : Front) (end p n : ℕ) : Type 0 where
   pub stands : StandsInRun a f end p n
-  pub may : a.options.on_boundaries ≡ true → f.whole ≡ true
+  pub may : a.options.now.on_boundaries ≡ true → f.whole ≡ true
   pub few : n ≤ 2 ^ 30
 
 -- the returns of attempts at so many items, the last ones of a run: of each those of the choices before, and one for each item from there on

@@ -15,7 +15,7 @@ pub struct Asked<'a> {
     /// Where a match is wanted.
     pub request: Request,
     /// What it may be, and what the search may take.
-    pub options: SearchOptions,
+    pub options: &'a SearchOptions,
     /// Whether `\G` holds where the search starts.
     pub continues: bool,
 }

@@ -57,7 +57,7 @@ fn read_whole(
     requires { KnowsRun attempt.now.splits.now attempt.now.haystack.now last_run.old }
     ensures read { IfOk result (λ whole. IfSome whole (ReadsAll attempt.now trail.now.now)) }
     ensures known { KnowsRun attempt.now.splits.now attempt.now.haystack.now last_run.new }
-    ensures units { GoesOver attempt.now.options.step_limit result work.old work.new }
+    ensures units { GoesOver attempt.now.options.now.step_limit result work.old work.new }
 {
     let Some(split) = attempt.splits.at(trail.at()) else {
         return Ok(None);
@@ -97,7 +97,7 @@ pub(crate) fn pass_atom(
     requires room { returns_of work.old ≤ limit }
     ensures went { (best : Option State) → WentOn attempt.now limit result
         trail.old best trail.new best work.old work.new }
-    ensures counts { CountsGoing limit attempt.now.options.step_limit result work.old work.new }
+    ensures counts { CountsGoing limit attempt.now.options.now.step_limit result work.old work.new }
     ensures known { KnowsRun attempt.now.splits.now attempt.now.haystack.now last_run.new }
 {
     work.count_step_within();

@@ -37,7 +37,7 @@ pub(crate) struct Attempt<'a> {
     pub(crate) continues: Option<usize>,
     /// The ends of the text that do not count as such.
     pub(crate) suppressed: SuppressedEnds,
-    pub(crate) options: SearchOptions,
+    pub(crate) options: &'a SearchOptions,
     /// The choices of the code of which bytes tell something.
     pub(crate) splits: &'a Splits,
     ghost told: { AreSplits splits.now code.now } by { splits_once splits.now code.now },
@@ -68,16 +68,16 @@ impl<'a> Attempt<'a> {
         splits: &'a Splits,
         haystack: &'a [u8],
         request: Request,
-        options: SearchOptions,
+        options: &'a SearchOptions,
         continues: bool,
     ) -> Attempt<'a>
         requires { AreSplits splits.now code.now }
         ensures code { result.code.now ≡ code.now }
-        ensures options { result.options ≡ options }
+        ensures options { result.options.now ≡ options.now }
         ensures haystack { result.haystack.now ≡ haystack.now }
         ensures splits { result.splits.now ≡ splits.now }
         ensures serves { (p : Pattern)
-            → Serves result (query_of p code.now options haystack.now request continues) }
+            → Serves result (query_of p code.now options.now haystack.now request continues) }
     {
         Attempt {
             code,
@@ -104,7 +104,7 @@ impl<'a> Attempt<'a> {
     /// Counts units that an instruction is about to go over. Where the limit of steps allows fewer, it counts those, and the attempt is
     /// refused.
     pub(crate) fn count_units(&self, units: usize, work: &mut Work) -> Result<(), SearchRefusal>
-        ensures units { GoesOver self.now.options.step_limit result work.old work.new }
+        ensures units { GoesOver self.now.options.now.step_limit result work.old work.new }
         ensures counted { OnOk result (CountsUnits units work.old work.new) }
     {
         if !work.count_units(units, self.options.step_limit) {
@@ -127,7 +127,7 @@ impl<'a> Attempt<'a> {
         ensures adds { AddsReturns count work.old work.new }
         ensures refused { result ≡ Err SearchRefusal.Returns → limit < returns_of work.old + count }
         ensures saved { result ≢ Err SearchRefusal.Choices }
-        ensures heeds { HeedsLimits limit self.now.options.step_limit result work.old work.new }
+        ensures heeds { HeedsLimits limit self.now.options.now.step_limit result work.old work.new }
     {
         if count == 0 {
             return Ok(());
@@ -150,7 +150,7 @@ impl<'a> Attempt<'a> {
         ensures refused { result ≢ Err SearchRefusal.Returns }
         ensures crowded { result ≡ Err SearchRefusal.Choices → IsFull self.now trail.old }
         ensures most { trail.new.most ≡ trail.old.most }
-        ensures takes { TakesStep self.now.options.step_limit result work.old work.new }
+        ensures takes { TakesStep self.now.options.now.step_limit result work.old work.new }
         ensures last_lines { KnowsLastLines self.now.haystack.now last_lines.new }
     {
         let next = step(self, trail, last_lines, work)?;
@@ -183,7 +183,7 @@ impl<'a> Attempt<'a> {
         requires ready { IsReady self.now limit seen.old work.old }
         ensures went { (best : Option State) → WentOn self.now limit result
             trail.old best trail.new best work.old work.new }
-        ensures counts { CountsGoing limit self.now.options.step_limit result work.old work.new }
+        ensures counts { CountsGoing limit self.now.options.now.step_limit result work.old work.new }
         ensures seen { KnowsSeen self.now seen.new }
     {
         match part {
@@ -208,7 +208,7 @@ impl<'a> Attempt<'a> {
         requires ready { IsReady self.now limit seen.old work.old }
         ensures went { WentOn self.now limit result
             trail.old best.old trail.new best.new work.old work.new }
-        ensures counts { CountsGoing limit self.now.options.step_limit result work.old work.new }
+        ensures counts { CountsGoing limit self.now.options.now.step_limit result work.old work.new }
         ensures seen { KnowsSeen self.now seen.new }
     {
         if let Some(part) = self.splits.part(trail.at()) {
@@ -231,7 +231,7 @@ impl<'a> Attempt<'a> {
         ensures takes { TakesBranches self.now limit result
             trail.old trail.new work.old work.new }
         ensures adds { AddsReturns (returns_of work.new - returns_of work.old) work.old work.new }
-        ensures heeds { HeedsLimits limit self.now.options.step_limit result work.old work.new }
+        ensures heeds { HeedsLimits limit self.now.options.now.step_limit result work.old work.new }
     {
         if !trail.has_run() {
             return Ok(());
@@ -249,7 +249,7 @@ impl<'a> Attempt<'a> {
         ensures takes { TakesBranches self.now limit result
             trail.old trail.new work.old work.new }
         ensures counts { CountsBack work.old work.new }
-        ensures heeds { HeedsLimits limit self.now.options.step_limit result work.old work.new }
+        ensures heeds { HeedsLimits limit self.now.options.now.step_limit result work.old work.new }
     {
         self.pass_back(trail, limit, work)?;
         trail.back(limit, work)
@@ -270,7 +270,7 @@ impl<'a> Attempt<'a> {
         ghost deep: { ℕ }
         requires known { IsKnown (after (code_in self.now deep) trail.old.now) }
         requires fresh { trail.old.frames ≡ [] }
-        requires most { trail.old.most ≡ self.now.options.stack_limit }
+        requires most { trail.old.most ≡ self.now.options.now.stack_limit }
         requires ready { IsReady self.now limit seen.old work.old }
         ensures answer { IfOk result (λ found. state_if_found found trail.new.now
             ≡ outcome_from self.now deep trail.old.now) }
@@ -281,11 +281,11 @@ impl<'a> Attempt<'a> {
         ensures bounded { returns_of work.new
             ≤ returns_of work.old + returns_from self.now deep trail.old.now }
         ensures counts { KeepsCounts work.old work.new }
-        ensures heeds { HeedsLimits limit self.now.options.step_limit result work.old work.new }
+        ensures heeds { HeedsLimits limit self.now.options.now.step_limit result work.old work.new }
         ensures seen { KnowsSeen self.now seen.new }
         ensures crowded { result ≡ Err SearchRefusal.Choices
             → trail.old.most < marks_from self.now deep trail.old.now }
-        ensures most { trail.new.most ≡ self.now.options.stack_limit }
+        ensures most { trail.new.most ≡ self.now.options.now.stack_limit }
     {
         best.clear();
         let step_limit = self.options.step_limit;

@@ -138,7 +138,7 @@ pub(crate) fn choose(
     requires room { returns_of work.old ≤ limit }
     ensures went { (best : Option State) → WentOn attempt.now limit result
         trail.old best trail.new best work.old work.new }
-    ensures counts { CountsGoing limit attempt.now.options.step_limit result work.old work.new }
+    ensures counts { CountsGoing limit attempt.now.options.now.step_limit result work.old work.new }
 {
     work.count_step_within();
     let Some(passage) = passage_at(choice, attempt, trail) else {

@@ -173,7 +173,7 @@ pub(crate) fn read_run(
     ensures fits { IfOk result (λ n. trail.now.now.state.place + n < 2 ^ 64) }
     ensures short { IfOk result (λ n. n + 2 < 2 ^ 64) }
     ensures known { KnowsRun attempt.now.splits.now attempt.now.haystack.now last_run.new }
-    ensures units { GoesOver attempt.now.options.step_limit result work.old work.new }
+    ensures units { GoesOver attempt.now.options.now.step_limit result work.old work.new }
     ensures counted { IfOk result (λ n.
         IsPartOf last_run.old trail.now.now.at trail.now.now.state.place n
         ⊎ CountsUnits n work.old work.new) }
@@ -205,7 +205,7 @@ fn read_ahead(
     requires { StandsAt attempt.now split.now trail.now last_run.old }
     ensures run { IfOk result (λ run. IsRun split.now attempt.now.haystack.now trail.now run) }
     ensures known { KnowsRun attempt.now.splits.now attempt.now.haystack.now last_run.new }
-    ensures units { GoesOver attempt.now.options.step_limit result work.old work.new }
+    ensures units { GoesOver attempt.now.options.now.step_limit result work.old work.new }
 {
     let from = trail.place();
     let closes = split.stop.is_some() && trail.closes_at_any_stop();
@@ -243,7 +243,7 @@ pub(crate) fn pass(
     requires room { returns_of work.old ≤ limit }
     ensures went { (best : Option State) → WentOn attempt.now limit result
         trail.old best trail.new best work.old work.new }
-    ensures counts { CountsGoing limit attempt.now.options.step_limit result work.old work.new }
+    ensures counts { CountsGoing limit attempt.now.options.now.step_limit result work.old work.new }
     ensures known { KnowsRun attempt.now.splits.now attempt.now.haystack.now last_run.new }
 {
     work.count_step_within();

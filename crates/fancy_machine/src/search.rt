@@ -110,15 +110,16 @@ pub fn search(
 ) -> Result<Option<Found>, SearchRefusal>
     ghost q: { Query }
     requires asks { Asks q asked.now haystack.now }
-    requires room { HasRoom (returns_of work.old) asked.now.options.backtrack_limit }
+    requires room { HasRoom (returns_of work.old) asked.now.options.now.backtrack_limit }
     requires kept { is_kept ≡ true → KnowsLastLines haystack.now (lines_held cache.old) }
-    ensures answers { Answers asked.now.options
-        (returns_of work.old + asked.now.options.backtrack_limit) (search q)
-        (returns q (tried asked.now.options.seek q)) (choices q (tried asked.now.options.seek q))
+    ensures answers { Answers asked.now.options.now
+        (returns_of work.old + asked.now.options.now.backtrack_limit) (search q)
+        (returns q (tried asked.now.options.now.seek q))
+        (choices q (tried asked.now.options.now.seek q))
         result cache.old cache.new work.old work.new }
     ensures kept { IfOk result (λ found. IfSome found
         (λ _. KnowsLastLines haystack.now (lines_held cache.new))) }
-    ensures idle { NoneTried asked.now.options.seek q → steps_of work.new ≡ steps_of work.old }
+    ensures idle { NoneTried asked.now.options.now.seek q → steps_of work.new ≡ steps_of work.old }
 {
     let code = asked.code;
     let prices = asked.prices;
@@ -292,7 +293,7 @@ fn pass_run(
         ≤ returns_of work.old + returns_ahead q positions.now.seek positions.now.last from }
     ensures saved { result ≢ Err SearchRefusal.Choices }
     ensures counts { KeepsCounts work.old work.new }
-    ensures heeds { HeedsLimits limit attempts.now.options.step_limit result work.old work.new }
+    ensures heeds { HeedsLimits limit attempts.now.options.now.step_limit result work.old work.new }
 {
     let Some(front) = positions.front else {
         return Ok(from);
@@ -337,7 +338,7 @@ fn pass_priced(
         ≤ returns_of work.old + returns_ahead q positions.now.seek positions.now.last from }
     ensures saved { result ≢ Err SearchRefusal.Choices }
     ensures counts { KeepsCounts work.old work.new }
-    ensures heeds { HeedsLimits limit attempts.now.options.step_limit result work.old work.new }
+    ensures heeds { HeedsLimits limit attempts.now.options.now.step_limit result work.old work.new }
 {
     if price.marks == 0 && price.returns == 0 {
         return Ok(from + 1);
@@ -366,8 +367,9 @@ pub fn attempt_at(
     requires asks { Asks q asked.now haystack.now }
     requires starts { effective_start asked.now.request ≤ position }
     requires ends { position ≤ asked.now.request.range_end }
-    requires room { HasRoom (returns_of work.old) asked.now.options.backtrack_limit }
-    ensures { Answers asked.now.options (returns_of work.old + asked.now.options.backtrack_limit)
+    requires room { HasRoom (returns_of work.old) asked.now.options.now.backtrack_limit }
+    ensures { Answers asked.now.options.now
+        (returns_of work.old + asked.now.options.now.backtrack_limit)
         (attempt q position) (returns_at q position) (choices_at q position)
         result cache.old cache.new work.old work.new }
 {
@@ -396,7 +398,7 @@ fn try_position(
     ghost q: { Query }
     requires asked { IsAsked q attempts.now range_end position }
     requires ready { IsReady attempts.now limit (seen_held cache.old) work.old }
-    ensures answers { Answers attempts.now.options limit
+    ensures answers { Answers attempts.now.options.now limit
         (attempt q position) (returns_at q position) (choices_at q position)
         result cache.old cache.new work.old work.new }
     ensures seen { KnowsSeen attempts.now (seen_held cache.new) }

@@ -57,7 +57,7 @@ fn follow(
     ensures work { AddsUnits work.old work.new }
     ensures counted { result ≢ Err SearchRefusal.Steps
         → CountsUnits (units_ahead attempt.now trail.old.now) work.old work.new }
-    ensures heeds { HeedsSteps attempt.now.options.step_limit result work.old work.new }
+    ensures heeds { HeedsSteps attempt.now.options.now.step_limit result work.old work.new }
     ensures last_lines { KnowsLastLines attempt.now.haystack.now last_lines.new }
 {
     let at = trail.at();
@@ -109,7 +109,7 @@ pub(crate) fn step(
 ) -> Result<Next, SearchRefusal>
     requires { KnowsLastLines attempt.now.haystack.now last_lines.old }
     ensures followed { FollowsNext attempt.now result trail.old trail.new }
-    ensures takes { TakesStep attempt.now.options.step_limit result work.old work.new }
+    ensures takes { TakesStep attempt.now.options.now.step_limit result work.old work.new }
     ensures counted { result ≢ Err SearchRefusal.Steps
         → CountsUnits (units_ahead attempt.now trail.old.now) work.old work.new }
     ensures last_lines { KnowsLastLines attempt.now.haystack.now last_lines.new }

@@ -28,10 +28,10 @@ ghost use Rattle.fancy_prices.specs.Once.{prices_once};
 ghost use Rattle.fancy_search.specs.Readings.{Reading, one_reading};
 ghost use Rattle.fancy_search.specs.Followed.{FollowsEach};
 ghost use Rattle.fancy_search.specs.Compiled.{IsSpelled, IsCompiled};
-ghost use Rattle.fancy_search.specs.Options.{meaning_in, dialect_of, is_easy_under};
+ghost use Rattle.fancy_search.specs.Options.{meaning_in, dialect_of, is_easy_under, search_options};
 ghost use Rattle.fancy_search.specs.Refusals.{error_of};
 ghost use Rattle.fancy_search.specs.ProgramSize.{IsRefusedUnder, RefusesPattern, passes};
-ghost use Rattle.fancy_search.specs.Cached.{IsAnswerIn, IsAttemptIn};
+ghost use Rattle.fancy_search.specs.Cached.{IsAttemptIn};
 
 use crate::asked::Asked;
 use crate::cache::{AttemptCache, AttemptNotes, Cache, Engine, Kept, RememberedSteps};
@@ -48,7 +48,7 @@ use fancy_input::lines::byte_at;
 use fancy_input::refusal::SearchRefusal;
 use fancy_input::work::Work;
 use fancy_machine::search as machine;
-use fancy_meaning::options::is_match_boundary;
+use fancy_meaning::options::{SearchOptions, is_match_boundary};
 use fancy_prices::prices::Prices;
 use fancy_required::text::RequiredText;
 use fancy_runner::notes::KeptTable;
@@ -70,6 +70,8 @@ const SHORT_HAYSTACK: usize = 256;
 /// by that in a text that is not short.
 pub struct Program {
     options: Options,
+    /// What an engine is told of them.
+    for_search: SearchOptions,
     text: String,
     code: Code,
     names: Names,
@@ -88,6 +90,7 @@ pub struct Program {
     prices: Prices,
     pub ghost reading: { Reading options (string_bytes text) } by { one_reading options (string_bytes text) },
     pub ghost compiled: { ∥ IsCompiled reading.0 code (names_of names) ∥₁ },
+    ghost handed: { for_search ≡ search_options options },
     ghost meant: { code.meaning ≡ meaning_in options },
     ghost short: { code_len code ≤ 4 * nodes reading.0 + 2 },
     ghost decided: { easy ≡ is_easy_under options reading.0 },
@@ -106,6 +109,7 @@ impl Drop for Program {
     fn drop(self) {
         let Program {
             options: _,
+            for_search: _,
             text: _,
             code: _,
             names: _,
@@ -179,12 +183,13 @@ fn end_of(found: Option<Found>, first: usize) -> usize {
 
 impl Program {
     ghost use Rattle.fancy_search.specs.SearchCounts.{RefusesEasy, IsOutOfSteps, AllowsAllSteps, tried_by, is_hopeless, IfFound, IsHardProgram, RefusesQuery, RefusesAttempt, AllowsAttempt, HasRoomFor, step_bound};
-    ghost use Rattle.fancy_search.specs.Programs.{program_pattern, program_options, program_groups, program_names, program_length, program_is_easy, asked_of, query_in};
+    ghost use Rattle.fancy_search.specs.Programs.{program_pattern, program_options, program_stack_limit, program_groups, program_names, program_length, program_is_easy, asked_of, query_in};
     ghost use Rattle.fancy_search.specs.Served.{IsPosition, StandsIn, KeepsCounts, CountsReturns, HeedsStackLimit, Serves, ServesAlone, ServesEasily};
     ghost use Rattle.fancy_search.specs.OneItem.{EndsByOne, answer_to};
     ghost use Rattle.fancy_search.specs.Starts.{may_start, NeverHolds};
-    ghost use Rattle.fancy_search.specs.KeptTables.{KeepsTable, KeepsSteps, KeepsLines, IsKeptIn, IsKeptFor, KeepsNotes, LeavesNotes, table_kept, ahead_with, most_with, notes_to_go, TakesStepsToGo, SpendsSteps, KeepsOn, notes_ahead, is_steps, keeps_no_table};
-    ghost use Rattle.fancy_search.specs.Options.{search_options};
+    ghost use Rattle.fancy_search.specs.KeptTables.{KeepsTable, KeepsSteps, IsKeptIn, IsKeptFor, KeepsNotes, LeavesNotes, table_kept, ahead_with, most_with, notes_to_go, TakesStepsToGo, SpendsSteps, KeepsOn, notes_ahead, is_steps, keeps_no_table};
+    ghost use Rattle.fancy_input.specs.LastLines.{KnowsLastLines};
+    ghost use Rattle.fancy_machine.specs.Asked.{HeedsLimit, groups_held, lines_held};
 
     /// Reads a pattern under these options, and compiles it.
     ///
@@ -217,8 +222,10 @@ impl Program {
         let text_required = required_text_of(alloc, &tree, options.meaning(), easy)?;
         let prices = prices_of(alloc, &code, easy)?;
         let text = String::from_str(alloc, pattern)?;
+        let for_search = options.for_search();
         Ok(Program {
             options,
+            for_search,
             text,
             code,
             names,
@@ -405,7 +412,7 @@ impl Program {
         requires room { HasRoomFor self.now asked.now.request work.old }
         ensures served { ServesAlone self.now asked.now result work.old work.new }
     {
-        let mut cache = Cache::new(*self.text.allocator());
+        let mut cache = machine::Cache::new(*self.text.allocator());
         self.backtrack(asked, false, &mut cache, work)
     }
 
@@ -453,7 +460,8 @@ impl Program {
         *kept = Kept::Lines;
         // A copy is handed on, so that the other has no address and an easy search takes it in registers.
         let asked = *asked;
-        self.backtrack(&asked, is_kept, cache, work)
+        cache.served = Engine::Machine;
+        self.backtrack(&asked, is_kept, &mut cache.machine, work)
     }
 
     /// The search for an easy pattern, by the automaton where that is worth its steps, and else by the runner. It has no `\G`.
@@ -718,14 +726,47 @@ impl Program {
             (λ _. AllowsAttempt self.now (query_in self.now asked.now) position) }
         ensures heeds { HeedsStackLimit self.now cache.old.engines cache.new.engines }
     {
+        if !self.easy {
+            return self.attempt_hard(asked, position, cache, work);
+        }
         if !self.is_tried(asked, position, &mut cache.known) {
             return Ok(None);
         }
-        let cache = &mut cache.engines;
-        if self.easy {
-            return self.run_at(asked, position, notes, cache, work);
+        self.run_at(asked, position, notes, &mut cache.engines, work)
+    }
+
+    /// The match that an attempt at one position finds, as [`Program::attempt_at`], for a hard pattern, which goes on with no notes.
+    pub fn attempt_hard(
+        &self,
+        asked: &Asked<'_>,
+        position: usize,
+        cache: &mut AttemptCache,
+        work: &mut Work,
+    ) -> Result<Option<Found>>
+        requires hard { IsHardProgram self.now }
+        requires tries { IsPosition asked.now.request position }
+        requires room { HasRoomFor self.now
+            (record asked.now.request { start = position }) work.old }
+        requires known { AreKnown cache.old.known asked.now.haystack.now }
+        ensures known { AreKnown cache.new.known asked.now.haystack.now }
+        ensures counted { cache.new.work ≡ cache.old.work }
+        ensures answer { IfOk result
+            (λ m. IsAttemptIn m cache.new.engines (query_in self.now asked.now) position) }
+        ensures stands { IfFound result (StandsIn self.now asked.now) }
+        ensures counts { KeepsCounts self.now result work.old work.new }
+        ensures idle { tried_by self.now (query_in self.now asked.now) position ≡ false
+            → steps_of work.new ≡ steps_of work.old }
+        ensures units { units_of work.old ≤ units_of work.new }
+        ensures refused { IfErr result
+            (RefusesAttempt self.now (query_in self.now asked.now) position) }
+        ensures allowed { IfOk result
+            (λ _. AllowsAttempt self.now (query_in self.now asked.now) position) }
+        ensures heeds { HeedsStackLimit self.now cache.old.engines cache.new.engines }
+    {
+        if !self.is_tried(asked, position, &mut cache.known) {
+            return Ok(None);
         }
-        self.backtrack_at(asked, position, cache, work)
+        self.backtrack_at(asked, position, &mut cache.engines, work)
     }
 
     /// The attempt at one position for an easy pattern, by the runner, which goes on with the notes.
@@ -1037,13 +1078,14 @@ impl Program {
         }
     }
 
-    /// The search for a hard pattern, by the backtracking machine. `is_kept` says that the search before was of the same haystack.
+    /// The search for a hard pattern, by the backtracking machine. `is_kept` says that the search before in `cache` was of the same
+    /// haystack.
     #[inline(never)]
     fn backtrack(
         &self,
         asked: &Asked<'_>,
         is_kept: bool,
-        cache: &mut Cache,
+        cache: &mut machine::Cache,
         work: &mut Work,
     ) -> Result<Option<Found>>
         ghost p: { Pattern }
@@ -1051,10 +1093,12 @@ impl Program {
         requires hard { IsHardProgram self.now }
         requires hopeful { is_hopeless self.now (query_in self.now asked.now) ≡ false }
         requires room { HasRoomFor self.now asked.now.request work.old }
-        requires kept { is_kept ≡ true → KeepsLines asked.now.haystack.now cache.old }
-        ensures answer { IfOk result (λ m. IsAnswerIn m cache.new (query_in self.now asked.now)) }
+        requires kept { is_kept ≡ true
+            → KnowsLastLines asked.now.haystack.now (lines_held cache.old) }
+        ensures answer { IfOk result (λ m.
+            answer_with (groups_held cache.new) m ≡ search (query_in self.now asked.now)) }
         ensures kept { IfOk result (λ m. IfSome m
-            (λ _. KeepsLines asked.now.haystack.now cache.new)) }
+            (λ _. KnowsLastLines asked.now.haystack.now (lines_held cache.new))) }
         ensures counts { KeepsCounts self.now result work.old work.new }
         ensures idle { NoneTried (program_options self.now).seek (query_in self.now asked.now)
             → steps_of work.new ≡ steps_of work.old }
@@ -1062,19 +1106,16 @@ impl Program {
             result work.old work.new }
         ensures refused { IfErr result
             (λ e. RefusesQuery self.now (query_in self.now asked.now) e) }
-        ensures heeds { HeedsStackLimit self.now cache.old cache.new }
+        ensures heeds { HeedsLimit (program_stack_limit self.now) cache.old cache.new }
     {
-        cache.served = Engine::Machine;
-        let machine = &mut cache.machine;
-        let options = self.options.for_search();
         let wanted = machine::Asked {
             code: &self.code,
             prices: &self.prices,
             request: asked.request,
-            options,
+            options: &self.for_search,
             continues: asked.continues,
         };
-        match machine::search(&wanted, asked.haystack, is_kept, machine, work) {
+        match machine::search(&wanted, asked.haystack, is_kept, cache, work) {
             Ok(found) => Ok(found),
             Err(refusal) => Err(error_of(refusal)),
         }
@@ -1107,12 +1148,11 @@ impl Program {
     {
         cache.served = Engine::Machine;
         let machine = &mut cache.machine;
-        let options = self.options.for_search();
         let wanted = machine::Asked {
             code: &self.code,
             prices: &self.prices,
             request: asked.request,
-            options,
+            options: &self.for_search,
             continues: asked.continues,
         };
         match machine::attempt_at(&wanted, asked.haystack, position, machine, work) {

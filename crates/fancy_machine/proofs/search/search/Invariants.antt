@@ -12,16 +12,16 @@ use Rattle.fancy_machine.proofs.search.search.Given as goal
 abbrev pub invariant-loop-place : goal.invariant-loop-place
 invariant-loop-place g l = record {
   left : search g.q ≡ answer_from g.q (l.last + 1 - l.place) l.place;
-  count : returns_of l.work + returns_in (gone_from g.q (tried l.fn.asked.options.seek g.q) (l.last + 1 - l.place) l.place) ≡ returns_of l.fn.work + returns g.q (tried l.fn.asked.options.seek g.q);
-  room : marks_in (gone_from g.q (tried l.fn.asked.options.seek g.q) (l.last + 1 - l.place) l.place) ≤ choices g.q (tried l.fn.asked.options.seek g.q);
-  tries : l.place ≤ l.last → tried l.fn.asked.options.seek g.q l.place ≡ true;
+  count : returns_of l.work + returns_in (gone_from g.q (tried l.fn.asked.options.now.seek g.q) (l.last + 1 - l.place) l.place) ≡ returns_of l.fn.work + returns g.q (tried l.fn.asked.options.now.seek g.q);
+  room : marks_in (gone_from g.q (tried l.fn.asked.options.now.seek g.q) (l.last + 1 - l.place) l.place) ≤ choices g.q (tried l.fn.asked.options.now.seek g.q);
+  tries : l.place ≤ l.last → tried l.fn.asked.options.now.seek g.q l.place ≡ true;
   passed : effective_start l.fn.asked.request ≤ l.place;
-  idle : NoneTried l.fn.asked.options.seek g.q → steps_of l.work ≡ steps_of l.fn.work;
-  fits : returns_of l.work ≤ returns_of l.fn.work + l.fn.asked.options.backtrack_limit;
+  idle : NoneTried l.fn.asked.options.now.seek g.q → steps_of l.work ≡ steps_of l.fn.work;
+  fits : returns_of l.work ≤ returns_of l.fn.work + l.fn.asked.options.now.backtrack_limit;
   counts : KeepsCounts l.fn.work l.work;
   seen : KnowsSeen l.attempt l.cache.seen;
-  heeds : HeedsLimit l.fn.asked.options.stack_limit l.fn.cache l.cache;
-  within : IsWithin l.fn.asked.options.step_limit l.fn.work → IsWithin l.fn.asked.options.step_limit l.work;
+  heeds : HeedsLimit l.fn.asked.options.now.stack_limit l.fn.cache l.cache;
+  within : IsWithin l.fn.asked.options.now.step_limit l.fn.work → IsWithin l.fn.asked.options.now.step_limit l.work;
 }
 
 abbrev pub decreases-loop-place : goal.decreases-loop-place

@@ -7,7 +7,7 @@ use Rattle.fancy_machine.proofs.attempt.Attempt.run.Given as goal
 
 abbrev pub invariant-steps : goal.invariant-steps
 invariant-steps g l = record {
-  searching : Searching l.self.options.longest (accepts l.self) (outcome_from l.self g.deep l.fn.trail.now) (returns_of l.fn.work + returns_from l.self g.deep l.fn.trail.now)
+  searching : Searching l.self.options.now.longest (accepts l.self) (outcome_from l.self g.deep l.fn.trail.now) (returns_of l.fn.work + returns_from l.self g.deep l.fn.trail.now)
       (marks_from l.self g.deep l.fn.trail.now) (left (code_in l.self g.deep) l.trail.now l.trail.frames) l.trail.frames l.best (returns_of l.work);
   room : returns_of l.work ≤ l.limit;
   steps : steps_of l.fn.work ≤ steps_of l.work;
@@ -15,7 +15,7 @@ invariant-steps g l = record {
   units : units_of l.fn.work ≤ units_of l.work;
   paired : returns_of l.fn.work ≤ steps_of l.fn.work → returns_of l.work ≤ steps_of l.work;
   most : l.trail.most ≡ l.fn.trail.most;
-  within : IsWithin l.self.options.step_limit l.fn.work → IsWithin l.self.options.step_limit l.work;
+  within : IsWithin l.self.options.now.step_limit l.fn.work → IsWithin l.self.options.now.step_limit l.work;
   seen : KnowsSeen l.self l.seen;
 }
 

@@ -9,10 +9,10 @@ attempt_at-requires g c =
     let of : g.p ≡ program_pattern c.args.self.now = c.requires.1.0 in
     let coded : ∥ IsCodeOf (program_pattern c.args.self.now) c.args.self.now.code ∥₁ = ∥∥₁_elim c.args.self.now.compiled ∥∥₁_prop (λ compiled. ∣ compiled.coded ∣₁) in (
       record { query = refl; code = rw of coded; inside = c.args.asked.now.inside; prices = c.args.self.now.priced },
-      (c.requires.0.from, (c.requires.0.to, rw c.for_search-options.ensures c.requires.1.1.1.1.1)),
+      (c.requires.0.from, (c.requires.0.to, rw c.args.self.now.handed c.requires.1.1.1.1.1)),
     )
 
 pub returns-in-Ok-clause-answer : goal.returns-in-Ok-clause-answer
 returns-in-Ok-clause-answer g c =
     let of : g.p ≡ program_pattern c.args.self.now = c.requires.1.0 in
-    rw (c.args.self.now.meant, c.for_search-options.ensures, of) at c.in-Ok.ensures.answer
+    rw (c.args.self.now.meant, c.args.self.now.handed, of) at c.in-Ok.ensures.answer

@@ -4,6 +4,7 @@ pub invariant_of-self : goal.invariant_of-self
 invariant_of-self c = record {
   reading = c.args.self.reading;
   compiled = c.args.self.compiled;
+  handed = c.args.self.handed;
   meant = c.args.self.meant;
   short = c.args.self.short;
   decided = c.args.self.decided;

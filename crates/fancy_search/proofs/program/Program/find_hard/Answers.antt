@@ -1,5 +1,5 @@
 use Rattle.std.proofs.Common.{refl, arith}
-use Rattle.fancy_search.specs.Cached.{cached_groups}
+use Rattle.fancy_machine.specs.Asked.{groups_held}
 use Rattle.fancy_search.specs.Programs.{query_in}
 use Rattle.fancy_search.proofs.ResultLemmas.{if_ok}
 use Rattle.fancy_search.proofs.SearchedLemmas.{found_by, found_stands, none_tried, none_tried_in}
@@ -11,7 +11,7 @@ backtrack-requires c = (refl, (c.requires.hard, (c.requires.hopeful, (c.requires
 pub returns : goal.returns
 returns c =
     let q = query_in c.args.self.now c.args.asked.now in
-    let groups = cached_groups c.backtrack.new.cache in
+    let groups = groups_held c.backtrack.new.cache in
     let returned = c.backtrack.ensures.returned in
     record {
       served = record {

@@ -50,6 +50,7 @@ invariant_of-result c = record {
     has_group_zero = omega (arith, c.in_ok-tree.ensures.accepted.1, c.in_ok-code.ensures.groups);
     rising = rising_names _ (views.dialect_options c.parse_options.result) _ _ _ _ _ (c.in_ok-tree.ensures.accepted.0).spelled.spelled (c.in_ok-tree.ensures.accepted.1 ∙ sym c.in_ok-code.ensures.groups) c.in_ok-tree.ensures.accepted.2;
   } ∣₁;
+  handed = c.for_search-for_search.ensures;
   meant = c.in_ok-code.ensures.meaning ∙ c.meaning.ensures;
   short = c.in_ok-code.ensures.short;
   decided = c.is_easy-easy.ensures;

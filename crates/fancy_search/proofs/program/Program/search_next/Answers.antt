@@ -1,5 +1,7 @@
 use Rattle.std.proofs.Common.{sym, refl, ◌∙◌, arith, true≢false}
+use Rattle.fancy_machine.specs.Asked.{groups_held}
 use Rattle.fancy_search.specs.Cached.{cached_groups}
+use Rattle.fancy_search.specs.declared.cache.Engine.TheVariants.{Machine}
 use Rattle.fancy_search.specs.Programs.{query_in}
 use Rattle.fancy_search.specs.SearchCounts.{IsHardProgram}
 use Rattle.fancy_search.proofs.KeptTablesLemmas.{found_lines}
@@ -53,10 +55,10 @@ returns-clause-served c =
     let returned = c.backtrack.ensures.returned in
     record {
       answer = c.backtrack.ensures.answer;
-      stands = if_ok _ _ (found_stands c.args.self.now c.args.asked.now (cached_groups c.backtrack.new.cache)) c.backtrack.result c.backtrack.ensures.answer;
+      stands = if_ok _ _ (found_stands c.args.self.now c.args.asked.now (groups_held c.backtrack.new.cache)) c.backtrack.result c.backtrack.ensures.answer;
       counts = c.backtrack.ensures.counts;
       idle = λ none. c.backtrack.ensures.idle (none_tried_in c.args.self.now q hopeful none);
-      none = λ none. if_ok _ _ (none_tried c.args.self.now q (cached_groups c.backtrack.new.cache) hopeful none) c.backtrack.result c.backtrack.ensures.answer;
+      none = λ none. if_ok _ _ (none_tried c.args.self.now q (groups_held c.backtrack.new.cache) hopeful none) c.backtrack.result c.backtrack.ensures.answer;
       hard = λ _. returned;
       refused = c.backtrack.ensures.refused;
       allowed = if_ok _ _ (λ _ counted hard. omega (arith, counted, returned.fits)) c.backtrack.result returned.counted;
@@ -69,4 +71,4 @@ backtrack-requires c =
 
 pub returns-clause-kept : goal.returns-clause-kept
 returns-clause-kept c =
-    if_ok _ _ (found_lines c.args.self.now c.args.asked.now.haystack.now c.backtrack.new.cache c.args.asked.now.request) c.backtrack.result c.backtrack.ensures.kept
+    if_ok _ _ (found_lines c.args.self.now c.args.asked.now.haystack.now (record c.args.cache.now { served = Machine; machine = c.backtrack.new.cache }) c.args.asked.now.request) c.backtrack.result c.backtrack.ensures.kept

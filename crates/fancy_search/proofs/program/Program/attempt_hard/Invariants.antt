@@ -1,5 +1,5 @@
 use Rattle.fancy_search.specs.Programs.{program_pattern}
-use Rattle.fancy_search.proofs.program.Program.attempt_at.Given as goal
+use Rattle.fancy_search.proofs.program.Program.attempt_hard.Given as goal
 
 abbrev pub ghost-backtrack_at : goal.ghost-backtrack_at
 ghost-backtrack_at a = program_pattern a.self.now
