@@ -20,11 +20,12 @@ pub fn may_hold(regex: &Regex, place: usize, byte: u8) -> bool
     regex.program.may_hold(place, byte)
 }
 
-/// Whether the pattern is one item, as far as this is told, so that no match goes past an ASCII character that it starts with. For a
-/// regex that is not easy the answer is `false`.
+/// Whether the pattern is one item, or alternatives of one item each, as far as this is told, so that no match goes past an ASCII
+/// character that it starts with. For a regex that is not easy the answer is `false`.
 ///
 /// ```text
 /// is_one_item(&Regex::new(alloc, "[a-z]")?)     // true
+/// is_one_item(&Regex::new(alloc, ";|[^{]")?)    // true
 /// is_one_item(&Regex::new(alloc, "[a-z]+")?)    // false
 /// ```
 pub fn is_one_item(regex: &Regex) -> bool

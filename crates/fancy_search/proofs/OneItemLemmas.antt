@@ -1,5 +1,7 @@
 -- Code of one item: its one outcome is past the item.
-use Rattle.std.proofs.Common.{cond, ◌&&◌, ◌==◌, ◌≡◌, ℕ, zero, suc, ◌+◌, ◌<◌, ◌≤◌, Bool, true, false, List, [], ◌∷◌, length, Option, Some, None, if◌then◌else◌, nat_le, refl, sym, ap, subst, ◌∙◌, arith, slice_index, slice_get, replicate}
+use Rattle.std.proofs.Common.{cond, ◌++◌, ◌&&◌, ◌==◌, ◌≡◌, ℕ, zero, suc, ◌+◌, ◌<◌, ◌≤◌, Bool, true, false, List, [], ◌∷◌, length, Option, Some, None, if◌then◌else◌, nat_le, refl, sym, ap, subst, ◌∙◌, arith, slice_index, slice_get, replicate}
+use Rattle.std.proofs.Math.Logic.{∥∥₁_elim}
+use Rattle.std.proofs.Props.{props}
 use Rattle.std.specs.List.{filter}
 use Rattle.std.specs.Prelude.{option_map}
 use Rattle.std.proofs.lemmas.List.{length-replicate}
@@ -15,16 +17,21 @@ use Rattle.fancy_tree.specs.Sets.{has}
 use Rattle.fancy_input.specs.Places.{char_at}
 use Rattle.fancy_input.proofs.CharacterLemmas.{char_at-ascii}
 use Rattle.fancy_meaning.specs.Context.{Context, State, Unit_at, moved_to, unit_in, unit_at, one_character, one_byte, past_item, past_byte, option_to}
-use Rattle.fancy_meaning.specs.Events.{Event, stay, move, outcomes_in}
+use Rattle.fancy_meaning.specs.Events.{Event, mark, return, outcome, stay, move, outcomes_in}
+use Rattle.fancy_meaning.specs.Forward.{EachOutcome}
+use Rattle.fancy_meaning.proofs.AttemptLemmas.{attempt_some}
+use Rattle.fancy_meaning.proofs.BeginLemmas.{moved}
+use Rattle.fancy_meaning.proofs.SearchLemmas.{if_false}
 use Rattle.fancy_code.specs.Instructions.{Instruction, Match, Fail, Character, Member, RawByte, Assert, Split, Open, Close, Enter, Commit, Look, Deny, Test, Back, Recall, Keep, Continue, Taken}
-use Rattle.fancy_code.specs.Run.{Raw, Note, Stop, fetched, Go, before, onward, instr_at, act, run, erase}
+use Rattle.fancy_code.specs.Run.{Raw, Note, Stop, choice_opened, returned, fetched, Go, before, join, onward, instr_at, act, run, erase}
 use Rattle.fancy_meaning.specs.Search.{Query, Answer, answer_at, attempt, accepted, first_one, longest_one, context_of, initial, trace_at}
 use Rattle.fancy_meaning.specs.Trace.{outcomes}
 use Rattle.fancy_code.proofs.WholeCode.{program_gives}
 use Rattle.fancy_search.specs.declared.asked.Asked.{Asked}
 use Rattle.fancy_search.specs.declared.program.Program.{Program}
-use Rattle.fancy_search.specs.OneItem.{EndsByOne, IsOneItem, ReadsOne, answer_to}
+use Rattle.fancy_search.specs.OneItem.{AreOneItems, EachReadsOne, EndsByOne, IsOneItem, ReadsOne, answer_to}
 use Rattle.fancy_search.specs.Programs.{program_is_easy, asked_of, query_in}
+use Rattle.fancy_search.proofs.ProgramSizeLemmas.{parts_of_easy}
 use Rattle.fancy_search.proofs.SearchedLemmas.{known}
 
 module _ (x : Context) (limit : ℕ) (code : List Instruction) (matching : instr_at code 0 ≡ Match) (s : State) (v : List ℕ) where
@@ -199,25 +206,66 @@ item_read x (Keep next) p never = absurd never
 item_read x (Continue next) p never = absurd never
 item_read x (Taken number next) p never = absurd never
 
--- where the answer ends, if there is one
-answer_ends : (q : Query) (p end : ℕ) (b : Bool) (a : Answer) → (if b then Some (record { position = p; state = moved_to (initial q p) end }) else None) ≡ Some a → a.state.place ≡ end
-answer_ends q p end true a e = sym (ap (λ (x : Answer). x.state.place) (same_Some (record { position = p; state = moved_to (initial q p) end }) a e))
-answer_ends q p end false a e = cc
+-- what holds of each outcome before and after holds of each
+each-append : (P : State → Type 0) (a b : List Raw) → EachOutcome P (erase a) → EachOutcome P (erase b) → EachOutcome P (erase (a ++ b))
+each-append P [] b before after = after
+each-append P (Note choice_opened ∷ a) b before after = each-append P a b before after
+each-append P (Note returned ∷ a) b before after = each-append P a b before after
+each-append P (Note fetched ∷ a) b before after = each-append P a b before after
+each-append P (Stop q s v ∷ a) b before after = (before.0, each-append P a b before.1 after)
 
-answer_by : (q : Query) (p : ℕ) (past : Option ℕ) (a : Answer) → ((end : ℕ) → past ≡ Some end → end ≤ p + 1) → answer_to q p past ≡ Some a → a.state.place ≤ p + 1
-answer_by q p None a by e = cc
-answer_by q p (Some end) a by e =
-    let most = by end refl in
-    let same = answer_ends q p end (nat_le end q.request.range_end && accepted q p (moved_to (initial q p) end)) a e in
-    omega (arith, most, same)
+-- where an ASCII byte stands, each outcome of ways that read one item each ends past that byte or before
+module _ (x : Context) (limit : ℕ) (code : List Instruction) (matching : instr_at code 0 ≡ Match) (s : State) (v : List ℕ)
+    (inside : s.place < length x.haystack) (low : slice_index x.haystack s.place < 128) where
+  abbrev IsNear : State → Type 0
+  IsNear t = t.place ≤ s.place + 1
 
-pub ends_by_one : (s : Program) → program_is_easy s ≡ true → IsOneItem (instr_at (instrs_of s.code) s.code.start) → EndsByOne s
-ends_by_one s easy one = record {
+  one_near : (at n : ℕ) → IsOneItem (instr_at code at) → (w : List Raw) → run x limit code n at s v ≡ Some w → EachOutcome IsNear (erase w)
+  one_near at n one w e =
+      let read = item_read x (instr_at code at) s.place one in
+      subst (EachOutcome IsNear) (sym (run_is x limit code matching s v at read.past read.reads n w e)) (moved IsNear limit s read.past (λ end is. read.ends end is inside low))
+
+  are_near : (k at n : ℕ) → EachReadsOne code k at → (w : List Raw) → run x limit code n at s v ≡ Some w → EachOutcome IsNear (erase w)
+  are_near zero at n one w e = one_near at n one w e
+  are_near (suc k) at zero t w e = cc
+  are_near (suc k) at (suc n) t w e =
+      by (run x limit code n t.0 s v) (run x limit code n t.1 s v) (one_near t.0 n t.3) (are_near k t.1 n t.4) (met (instr_at code at) t.2 e) where
+        met : (i : Instruction) → i ≡ Split t.0 t.1 → before (Note fetched) (act x limit at i (run x limit code n) (run x (length x.haystack) code n) s v) ≡ Some w
+            → before (Note fetched) (before (Note choice_opened) (join (run x limit code n t.0 s v) (run x limit code n t.1 s v))) ≡ Some w
+        met i is e = rw is at e
+
+        by : (o r : Option (List Raw)) → ((u : List Raw) → o ≡ Some u → EachOutcome IsNear (erase u)) → ((u : List Raw) → r ≡ Some u → EachOutcome IsNear (erase u))
+            → before (Note fetched) (before (Note choice_opened) (join o r)) ≡ Some w → EachOutcome IsNear (erase w)
+        by None r first second e = cc
+        by (Some a) None first second e = cc
+        by (Some a) (Some b) first second e =
+            subst (λ (u : List Raw). EachOutcome IsNear (erase u)) (same_Some (Note fetched ∷ Note choice_opened ∷ (a ++ Note returned ∷ b)) w e)
+            (each-append IsNear a (Note returned ∷ b) (first a refl) (second b refl))
+
+-- what holds of each outcome holds of the first that is accepted
+first_holds : (test : State → Bool) (P : State → Type 0) (es : List Event) (s : State) → EachOutcome P es → first_one (filter test (outcomes_in es)) ≡ Some s → P s
+first_holds test P [] s all e = cc
+first_holds test P (mark ∷ es) s all e = first_holds test P es s all e
+first_holds test P (return ∷ es) s all e = first_holds test P es s all e
+first_holds test P (outcome t ∷ es) s all e = by (test t) (first_holds test P es s all.1) e where
+  by : (b : Bool) → (first_one (filter test (outcomes_in es)) ≡ Some s → P s) → first_one (cond b (t ∷ filter test (outcomes_in es)) (filter test (outcomes_in es))) ≡ Some s → P s
+  by true later e = subst P (same_Some t s e) all.0
+  by false later e = later e
+
+attempt_holds : (q : Query) (p : ℕ) (P : State → Type 0) (a : Answer) → q.sought.longest ≡ false → EachOutcome P (trace_at q p) → attempt q p ≡ Some a → P a.state
+unfolding answer_at outcomes
+attempt_holds q p P a short all e = first_holds (accepted q p) P (trace_at q p) a.state all (sym (if_false q.sought.longest _ _ short) ∙ (attempt_some q p a e).0)
+
+pub ends_by_one : (s : Program) → program_is_easy s ≡ true → AreOneItems (instrs_of s.code) s.code.start → EndsByOne s
+ends_by_one s easy ones = record {
   easy = easy;
   ends = λ haystack request on p a inside within low found.
       (let q = asked_of s haystack request on in
-      let read = item_read (context_of q) (instr_at (instrs_of s.code) s.code.start) p one in
-      let is : attempt q p ≡ answer_to q p read.past = known _ _ s.compiled
-      (λ compiled. one_item_found q s.code compiled.coded (sym s.meant) inside p read.past read.reads (omega (arith, within))) in
-      answer_by q p read.past a (λ end e. read.ends end e (omega (arith, within, inside)) low) (sym is ∙ found));
+      let v = replicate s.code.groups 0 in
+      ∥∥₁_elim s.compiled (hlevel props)
+      (λ compiled.
+      (let g = program_gives (context_of q) q.request.range_end q.sought.pattern s.code compiled.coded (sym s.meant) inside (initial q p) v (omega (arith, within)) (length-replicate s.code.groups 0) in
+      let near = are_near (context_of q) q.request.range_end (instrs_of s.code) (get_or_from_slice_get (instrs_of s.code) 0 Match Fail compiled.coded.matching) (initial q p) v (omega (arith, within, inside)) low
+      ones.0 s.code.start (depth (length q.haystack) q.sought.pattern + 1) ones.1 g.0 g.1 in
+      attempt_holds q p (λ t. t.place ≤ p + 1) a (parts_of_easy _ _ _ easy).2 (subst (EachOutcome (λ t. t.place ≤ p + 1)) g.2 near) found)));
 }

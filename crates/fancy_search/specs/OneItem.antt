@@ -1,9 +1,10 @@
 -- Patterns of one item.
-use Rattle.std.specs.Prelude.{◌≡◌, ◌==◌, ◌&&◌, ◌+◌, ◌<◌, ◌≤◌, ℕ, Bool, true, List, Option, Some, None, length, nat_le, slice_index, if◌then◌else◌}
+use Rattle.std.specs.Prelude.{◌≡◌, ◌==◌, ◌&&◌, ◌+◌, ◌<◌, ◌≤◌, ℕ, zero, suc, Bool, true, List, Option, Some, None, length, nat_le, slice_index, if◌then◌else◌}
 use Rattle.fancy_input.specs.declared.input.Request.{Request}
 use Rattle.fancy_tree.specs.Sets.{has}
 use Rattle.fancy_meaning.specs.Context.{Context, moved_to, past_item, past_byte}
 use Rattle.fancy_code.specs.Instructions.{Instruction, Match, Fail, Character, Member, RawByte, Assert, Split, Open, Close, Enter, Commit, Look, Deny, Test, Back, Recall, Keep, Continue, Taken}
+use Rattle.fancy_code.specs.Run.{instr_at}
 use Rattle.fancy_meaning.specs.Search.{Query, Answer, accepted, attempt, initial}
 use Rattle.fancy_search.specs.declared.program.Program.{Program}
 use Rattle.fancy_search.specs.Programs.{program_is_easy, asked_of}
@@ -59,6 +60,15 @@ IsOneItem (Recall folded number moved still) = ⊥
 IsOneItem (Keep next) = ⊥
 IsOneItem (Continue next) = ⊥
 IsOneItem (Taken number next) = ⊥
+
+-- n choices follow one after another from q on, and each way of them reads one item, after which there is an outcome
+abbrev pub EachReadsOne : List Instruction → ℕ → ℕ → Type 0
+EachReadsOne code zero q = IsOneItem (instr_at code q)
+EachReadsOne code (suc n) q = (first : ℕ) × (second : ℕ) × (instr_at code q ≡ Split first second) × IsOneItem (instr_at code first) × EachReadsOne code n second
+
+-- each way from q on reads one item, after which there is an outcome
+abbrev pub AreOneItems : List Instruction → ℕ → Type 0
+AreOneItems code q = (n : ℕ) × EachReadsOne code n q
 
 -- The pattern is easy, and where an ASCII byte stands what an attempt finds ends past that byte or before, whatever is asked.
 pub record EndsByOne (s : Program) : Type 0 where

@@ -4,7 +4,7 @@ ghost use Rattle.std.specs.Prelude.{◌≡◌, IfSome, true};
 ghost use Rattle.fancy_code.specs.Code.{instrs_of};
 ghost use Rattle.fancy_meaning.specs.Context.{Context};
 ghost use Rattle.fancy_code.specs.Run.{instr_at};
-ghost use Rattle.fancy_search.specs.OneItem.{IsOneItem, ReadsOne};
+ghost use Rattle.fancy_search.specs.OneItem.{AreOneItems, IsOneItem, ReadsOne};
 
 use fancy_code::code::{Code, Instr, MATCH};
 use fancy_code::step::{past_character, past_member, past_raw_byte};
@@ -32,17 +32,37 @@ pub(crate) fn past_one_item(code: &Code, haystack: &[u8], place: usize) -> Optio
     }
 }
 
-/// Whether code reads one item, after which a match is found.
-pub(crate) fn is_one_item(code: &Code) -> bool
-    ensures { result ≡ true → IsOneItem (instr_at (instrs_of code.now) code.now.start) }
+/// How many choices are followed.
+const MOST: usize = 16;
+
+/// Whether an instruction reads one item, after which a match is found.
+fn reads_one(code: &Code, at: usize) -> bool
+    ensures { result ≡ true → IsOneItem (instr_at (instrs_of code.now) at) }
 {
-    if code.start >= code.len() {
+    if at >= code.len() {
         return false;
     }
-    match code.instr(code.start) {
+    match code.instr(at) {
         Instr::Character(_, next) => *next == MATCH,
         Instr::Member(_, next) => *next == MATCH,
         Instr::RawByte(_, next) => *next == MATCH,
         _ => false,
     }
+}
+
+/// Whether each way of code reads one item, after which a match is found, as in `[a-z]` and in `[a-z]|(?s:.)`.
+pub(crate) fn is_one_item(code: &Code) -> bool
+    ensures { result ≡ true → AreOneItems (instrs_of code.now) code.now.start }
+{
+    let mut at = code.start;
+    'ways: for _ in 0..MOST {
+        let Some(ways) = code.ways(at) else {
+            return reads_one(code, at);
+        };
+        if !reads_one(code, ways.first) {
+            return false;
+        }
+        at = ways.second;
+    }
+    false
 }

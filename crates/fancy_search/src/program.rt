@@ -299,8 +299,8 @@ impl Program {
         !self.easy || self.code.prefilter.opening.may_hold(place, byte)
     }
 
-    /// Whether the pattern is one item, as far as its code tells, so that no match goes past an ASCII character that it starts with. For
-    /// a hard pattern the answer is `false`.
+    /// Whether the pattern is one item, or alternatives of one item each, as far as its code tells, so that no match goes past an ASCII
+    /// character that it starts with. For a hard pattern the answer is `false`.
     pub fn is_one_item(&self) -> bool
         ensures { result ≡ true → EndsByOne self.now }
     {
