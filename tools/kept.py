@@ -168,7 +168,11 @@ class KitStore:
 
     def take(self, crate):
         """Lays out what was built of the crate, whose libraries are laid out, and tells whether it was there."""
-        given = self.kept.give(crate, False, self.kept.key(crate))
+        key = self.kept.key(crate)
+        # The kit takes a file that is there already for damage, and forgets what it kept.
+        if os.path.isdir(self.kept.place(crate, False, key)):
+            shutil.rmtree(Path(crate.folder, "out/rlib"), ignore_errors=True)
+        given = self.kept.give(crate, False, key)
         if given:
             self.kept.is_built(crate)
         return given
