@@ -42,9 +42,6 @@ fn only_member(set: &ByteSet) -> Option<u8>
     None
 }
 
-/// At so many places a scan looks at the byte alone before it asks its tables: many searches of a list end there.
-const NEAR: usize = 8;
-
 /// A set of bytes, made ready for scans, many places at a time: a set of one byte is searched for as that byte, and a set of
 /// more by tables.
 #[derive(Drop)]
@@ -129,8 +126,8 @@ impl Scan {
         self.tables.marks(haystack, place)
     }
 
-    /// The same at the nearest places one at a time, and past these by the tables, 32 at a time; where fewer are left, one at a time. It
-    /// is a call of its own, and the tests of single bytes before it are none, since most searches of a list need no more.
+    /// The same by the tables, 32 places at a time, and where fewer are left one at a time. It is a call of its own, and the tests of
+    /// single bytes before it are none, since most searches of a list need no more.
     #[inline(never)]
     fn seen_by_tables(&self, haystack: &[u8], from: usize, to: usize) -> Option<usize>
         requires ordered { from ≤ to }
@@ -138,11 +135,7 @@ impl Scan {
         ensures { MatchOption result (NoneSeenBefore self.now haystack.now from to)
             (IsNextSeen self.now haystack.now from to) }
     {
-        let near = from.saturating_add(NEAR).min(to);
-        if let Some(place) = next_seen(&self.set, haystack, from, near) {
-            return Some(place);
-        }
-        let mut place = near;
+        let mut place = from;
         while 32 <= to - place {
             let marks = self.marks(haystack, place);
             if marks == 0 {
