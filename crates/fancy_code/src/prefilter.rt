@@ -23,8 +23,11 @@ use fancy_tree::char_set::CharSet;
 use fancy_tree::tree::{Assertion, Meaning};
 use std::alloc::{AllocError, Global};
 
-/// At how many places bytes are told at most.
+/// At how many places bytes are told.
 const PLACES: usize = 8;
+
+/// At how many places they are told where those tell too little.
+const MORE_PLACES: usize = 16;
 
 /// At how many places they are told where those are too many to be followed.
 const FEWER_PLACES: usize = 3;
@@ -290,19 +293,26 @@ fn sets_at_start(alloc: Global, code: &Code, places: usize) -> Result<Vec<ByteSe
     Ok(sets)
 }
 
-/// The sets of the bytes that may stand at the first places of a match, and whether they are worth a scan: at many places if one past
-/// the first has few bytes, at fewer if besides no run of one kind of byte has a byte of each.
+/// The sets of the bytes that may stand at the first places of a match, and whether they are worth a scan: at some places, or else at
+/// more, if one past the first has few bytes; at fewer if besides no run of one kind of byte has a byte of each.
 fn first_sets(alloc: Global, code: &Code) -> Result<(Vec<ByteSet>, bool), AllocError>
     ensures { IfOk result (λ told. AreForetold told.0.items code.now) }
 {
     let sets = sets_at_start(alloc, code, PLACES)?;
-    if sets.len() > 1 {
-        let is_worth = are_telling(&sets);
+    if sets.len() < 2 {
+        let sets = sets_at_start(alloc, code, FEWER_PLACES)?;
+        let is_worth = are_telling(&sets) && are_apart(&sets);
         return Ok((sets, is_worth));
     }
-    let sets = sets_at_start(alloc, code, FEWER_PLACES)?;
-    let is_worth = are_telling(&sets) && are_apart(&sets);
-    Ok((sets, is_worth))
+    let is_worth = are_telling(&sets);
+    if is_worth || sets.len() < PLACES {
+        return Ok((sets, is_worth));
+    }
+    let more = sets_at_start(alloc, code, MORE_PLACES)?;
+    if are_telling(&more) {
+        return Ok((more, true));
+    }
+    Ok((sets, false))
 }
 
 /// Sets that are told of the first places of a match, made ready for scans.

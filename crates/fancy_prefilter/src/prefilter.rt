@@ -110,9 +110,22 @@ impl Prefilter {
         }
     }
 
-    /// Whether a search would scan for a window: nor where a match may start with any byte.
+    /// Whether a search would scan for a window: not where each match opens with one text, or may start with any byte, or starts with
+    /// one that most texts seldom have. A line feed, a blank, a small letter and what begins a character past ASCII are often there.
     pub fn is_worth_window(&self) -> bool {
-        self.starts.is_some() && self.is_worth_lines()
+        let Some(scan) = &self.starts else {
+            return false;
+        };
+        if self.has_text() || !scan.has_one() {
+            return !self.has_text();
+        }
+        for code in 0..256u32 {
+            let byte = code as u8;
+            if scan.contains(byte) {
+                return matches!(byte, b'\n' | b' ' | b'a'..=b'z' | 0xC0..=0xFF);
+            }
+        }
+        false
     }
 
     /// Whether each match opens with a text that is told.
