@@ -3,25 +3,16 @@ use Rattle.std.proofs.Common.{◌≡◌, ℕ, zero, suc, ◌+◌, ◌-◌, ◌<�
 use Rattle.fancy_meaning.specs.Search.{Query}
 use Rattle.fancy_meaning.specs.Tried.{may_begin, tried}
 use Rattle.fancy_meaning.proofs.AttemptLemmas.{found_later}
+use Rattle.fancy_prices.specs.declared.entries.Priced.{Priced}
 use Rattle.fancy_prices.specs.declared.price.Price.{Price}
-use Rattle.fancy_prices.specs.Entries.{AreEntries, EntryTest, IsToldAt}
+use Rattle.fancy_prices.specs.Entries.{AreEntries, EntryTest, IsToldAt, TakeInAll}
 use Rattle.fancy_prices.specs.Prices.{CostsAt}
+use Rattle.fancy_prices.proofs.EntryLemmas.{one_told}
 use Rattle.fancy_machine.specs.declared.attempt.Attempt.{Attempt}
-use Rattle.fancy_machine.specs.declared.search.Priced.{Priced}
 use Rattle.fancy_machine.specs.Asked.{IsAsked}
-use Rattle.fancy_machine.specs.Front.{ArePriced, GoesPast, TakeInAll}
+use Rattle.fancy_machine.specs.Front.{ArePriced, GoesPast}
 use Rattle.fancy_machine.proofs.MachineSearch.{gone_counts, missed_here}
 use Rattle.fancy_machine.proofs.SeekLemmas.{told_costs}
-
--- one more of them
-pub one_more_told : (entry : EntryTest) (h : List ℕ) (end from n p r : ℕ) (c : Price) → p ≡ from + n → IsToldAt entry h end p c → TakeInAll entry h end from n r → TakeInAll entry h end from (suc n) (r + c.returns)
-one_more_told entry h end from n p r c e told all = (c, subst (λ (k : ℕ). IsToldAt entry h end k c) e told, r, refl, all)
-
-pub one_told : (entry : EntryTest) (h : List ℕ) (end from n : ℕ) (c : Price) → n ≡ 1 → IsToldAt entry h end from c → TakeInAll entry h end from n c.returns
-one_told entry h end from n c e told =
-    subst (λ (k : ℕ). TakeInAll entry h end from k c.returns) (sym e) (c, subst (λ (k : ℕ). IsToldAt entry h end k c) from_here told, 0, omega arith, refl) where
-      from_here : from ≡ from + 0
-      from_here = omega arith
 
 module _ (q : Query) (seek : Bool) (last : ℕ) where
   none_past : (p : ℕ) → p ≤ last + 1 → GoesPast q seek last p p 0
@@ -50,16 +41,16 @@ module _ (q : Query) (seek : Bool) (last : ℕ) where
   }
 
   module _ (entry : EntryTest) (h : List ℕ) (end : ℕ) (costs : (p : ℕ) (c : Price) → IsToldAt entry h end p c → CostsAt q p c) (from : ℕ) where
-    all_past : (n r : ℕ) → from + n ≤ last + 1 → ((k : ℕ) → k < n → tried seek q (from + k) ≡ true) → TakeInAll entry h end from n r → GoesPast q seek last from (from + n) r
-    all_past zero r le tries all =
+    all_past : (n r : ℕ) → from + n ≤ last + 1 → from + n ≤ end → ((k : ℕ) → k < n → tried seek q (from + k) ≡ true) → TakeInAll entry h from n r → GoesPast q seek last from (from + n) r
+    all_past zero r le inside tries all =
         let e : from ≡ from + 0 = omega arith in
         subst (λ (k : ℕ). GoesPast q seek last from k r) e (subst (GoesPast q seek last from from) (sym all) (none_past from (omega (arith, le))))
-    all_past (suc n) r le tries all =
-        let more = all_past n all.2 (omega (arith, le)) (λ k lt. tries k (omega (arith, lt))) all.4 in
+    all_past (suc n) r le inside tries all =
+        let more = all_past n all.2 (omega (arith, le)) (omega (arith, inside)) (λ k lt. tries k (omega (arith, lt))) all.4 in
         let e : from + n + 1 ≡ from + suc n = omega arith in
         subst (λ (k : ℕ). GoesPast q seek last from k r) e
         (both_past from (from + n) (from + n + 1) all.2 all.0.returns r all.3 more
-        (one_past (from + n) all.0.returns all.0 refl (omega (arith, le)) (tries n (omega arith)) (costs (from + n) all.0 all.1)))
+        (one_past (from + n) all.0.returns all.0 refl (omega (arith, le)) (tries n (omega arith)) (costs (from + n) all.0 (omega (arith, inside), all.1))))
 
     -- so the search goes on behind them
     pub priced_past : (seek ≡ true → tried true q from ≡ true) → (p : Priced) → ArePriced entry h end seek last from p → GoesPast q seek last from p.past p.returns
@@ -68,7 +59,7 @@ module _ (q : Query) (seek : Bool) (last : ℕ) where
       past = omega (arith, are.passed)
 
       to : ((k : ℕ) → k < p.past - from → tried seek q (from + k) ≡ true) → GoesPast q seek last from p.past p.returns
-      to tries = subst (λ (k : ℕ). GoesPast q seek last from k p.returns) past (all_past (p.past - from) p.returns (omega (arith, are.within, past)) tries are.returns)
+      to tries = subst (λ (k : ℕ). GoesPast q seek last from k p.returns) past (all_past (p.past - from) p.returns (omega (arith, are.within, past)) (omega (arith, are.inside, past)) tries are.returns)
 
       by : (b : Bool) → seek ≡ b → GoesPast q seek last from p.past p.returns
       by true e = to (λ k lt. let here : from + k ≡ from = omega (arith, lt, are.one e) in
@@ -93,6 +84,7 @@ passes_one q a range_end from asked bytes entry entries seek first last le c non
     (record {
       passed = omega arith;
       within = omega (arith, le);
+      inside = omega (arith, told.0);
       one = λ e. refl;
-      returns = one_told entry a.haystack.now range_end from (from + 1 - from) c (omega arith) told;
+      returns = one_told entry a.haystack.now from (from + 1 - from) c (omega arith) told.1;
     }))

@@ -3,13 +3,12 @@ use Rattle.std.specs.Prelude.{◌≡◌, ◌+◌, ◌-◌, ◌<◌, ◌≤◌, �
 use Rattle.fancy_meaning.specs.Events.{marks_in, returns_in}
 use Rattle.fancy_meaning.specs.Search.{Query, answer_from, gone_from}
 use Rattle.fancy_meaning.specs.Tried.{tried}
+use Rattle.fancy_prices.specs.declared.entries.Priced.{Priced}
 use Rattle.fancy_prices.specs.declared.front.Front.{Front}
 use Rattle.fancy_prices.specs.declared.splits.ToldSplit.{ToldSplit}
-use Rattle.fancy_prices.specs.declared.price.Price.{Price}
-use Rattle.fancy_prices.specs.Entries.{EntryTest, IsToldAt}
+use Rattle.fancy_prices.specs.Entries.{EntryTest, TakeInAll}
 use Rattle.fancy_prices.specs.Splits.{IsNoted}
 use Rattle.fancy_machine.specs.declared.attempt.Attempt.{Attempt}
-use Rattle.fancy_machine.specs.declared.search.Priced.{Priced}
 use Rattle.fancy_machine.specs.Runs.{HasItems, Lacks}
 
 -- From a place on stand so many items of the loop, in no group, up to the end at most. Past them no further one stands, and what follows the loop cannot go on there, nor where an
@@ -52,15 +51,10 @@ pub record GoesPast (q : Query) (seek : Bool) (last from on returns : ℕ) : Typ
   pub count : returns_ahead q seek last from ≡ returns + returns_ahead q seek last on
   pub marks : marks_ahead q seek last on ≤ marks_ahead q seek last from
 
--- of each of so many positions from p on a price is told, and so many returns they take in all
-abbrev pub TakeInAll : EntryTest → List ℕ → ℕ → ℕ → ℕ → ℕ → Type 0
-TakeInAll entry haystack range_end p zero returns = returns ≡ 0
-TakeInAll entry haystack range_end p (suc n) returns =
-    (c : Price) × IsToldAt entry haystack range_end (p + n) c × (before : ℕ) × (returns ≡ before + c.returns) × TakeInAll entry haystack range_end p n before
-
--- So it is of the positions from the one on and before that which is passed to: one, where the search seeks.
+-- Of the positions from the one on and before that which is passed to a price is told, and they take so many returns in all: it is one, where the search seeks.
 pub record ArePriced (entry : EntryTest) (haystack : List ℕ) (range_end : ℕ) (seek : Bool) (last from : ℕ) (priced : Priced) : Type 0 where
   pub passed : from < priced.past
   pub within : priced.past ≤ last + 1
+  pub inside : priced.past ≤ range_end
   pub one : seek ≡ true → priced.past ≡ from + 1
-  pub returns : TakeInAll entry haystack range_end from (priced.past - from) priced.returns
+  pub returns : TakeInAll entry haystack from (priced.past - from) priced.returns

@@ -32,7 +32,7 @@ use fancy_input::work::Work;
 use fancy_meaning::options::is_match_boundary;
 use fancy_meaning::reading::ready_last_lines;
 use fancy_prefilter::candidates::next_candidate;
-use fancy_prices::entries::Entries;
+use fancy_prices::entries::{Entries, Priced};
 use fancy_prices::front::Front;
 use fancy_prices::price::Price;
 use std::alloc::Global;
@@ -164,15 +164,6 @@ pub fn search(
 /// How many positions are passed over together at most, by their prices. Past them a scan may go on faster.
 const TOGETHER: usize = 32;
 
-/// Positions of which it is told that attempts there find nothing.
-#[derive(Clone, Copy)]
-struct Priced {
-    /// The position after them.
-    past: usize,
-    /// The returns of attempts at them.
-    returns: usize,
-}
-
 /// The positions at which a search makes an attempt.
 #[derive(Clone, Copy)]
 struct Positions<'a> {
@@ -252,17 +243,9 @@ impl Positions<'_> {
             self.entry.range_end self.entry.seek self.entry.last from result }
     {
         let end = from + (self.last + 1 - from).min(self.together());
-        let mut returns = price.returns as usize;
-        for place in from + 1..end {
-            let Some(price) = self.price(place, most) else {
-                return Priced {
-                    past: place,
-                    returns,
-                };
-            };
-            returns += price.returns as usize;
-        }
-        Priced { past: end, returns }
+        let to = end.min(self.range_end);
+        self.entries
+            .priced_from(self.haystack, price, from, to, most)
     }
 }
 

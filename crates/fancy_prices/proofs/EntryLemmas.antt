@@ -1,11 +1,11 @@
 -- The positions at which an attempt must be made, by what the code costs at the others.
-use Rattle.std.proofs.Common.{◌==◌, eqb-true, not, ◌≡◌, ℕ, zero, suc, ◌+◌, ◌-◌, ◌<◌, ◌≤◌, Bool, true, false, ◌&&◌, List, length, Option, Some, None, IfSome, refl, sym, ap, subst, ◌∙◌, arith, true≢false, slice_get, slice_index, slice_set, replicate, ◌⊎◌, inl, inr, get_or-set_same, get_or-set_other}
-use Rattle.std.specs.Prelude.{slice_index_or, vec_len}
+use Rattle.std.proofs.Common.{◌==◌, eqb-true, ◌≡◌, ℕ, zero, suc, ◌+◌, ◌-◌, ◌<◌, ◌≤◌, true, false, List, length, Option, Some, None, IfSome, refl, sym, ap, subst, ◌∙◌, arith, true≢false, slice_get, slice_index, slice_set, replicate, ◌⊎◌, inl, inr, get_or-set_same, get_or-set_other}
+use Rattle.std.specs.Prelude.{slice_index_or}
 use Rattle.std.proofs.lemmas.Bool.{cases_eq, cases_lt}
 use Rattle.std.proofs.lemmas.Option.{IfSome_then, slice_get-get_or}
 use Rattle.fancy_input.specs.Lines.{byte_before}
 use Rattle.fancy_input.specs.Places.{is_continuation}
-use Rattle.fancy_bytes.specs.Sets.{ByteFlags, member}
+use Rattle.fancy_bytes.specs.Sets.{member}
 use Rattle.fancy_prefilter.specs.Seeks.{IsNextSeen, NoneSeenBefore}
 use Rattle.fancy_code.specs.declared.code.Code.{Code}
 use Rattle.fancy_code.specs.Code.{instrs_of}
@@ -18,7 +18,8 @@ use Rattle.fancy_prices.specs.declared.entries.Told.{Told}
 use Rattle.fancy_prices.specs.declared.price.Price.{Price}
 use Rattle.fancy_prices.specs.Rows.{TellsAfter, TellsRow, costs_nothing}
 use Rattle.fancy_prices.specs.Prices.{CostsAt, IsNothing}
-use Rattle.fancy_prices.specs.Entries.{AreEntries, ArePassed, IsNextCostly, IsNextEntry, IsPassed, TellRows, TellsBehind, TellsRowBehind, costly_in, is_costly, is_told, number_before, price_after, price_behind, price_in, row_of}
+use Rattle.fancy_prices.specs.Entries.{AreEntries, ArePassed, EntryTest, IsToldOf, TakeInAll, IsNextCostly, IsNextEntry, IsPassed, TellRows, is_told}
+use Rattle.fancy_prices.specs.Around.{TellsBehind, TellsRowBehind, costly_in, is_costly, price_after, price_behind, price_in, row_of}
 use Rattle.fancy_prices.proofs.DyingWays.{dies_told}
 use Rattle.fancy_prices.proofs.FlagLemmas.{both, on}
 use Rattle.fancy_prices.proofs.BeginLemmas.{get_index}
@@ -34,7 +35,7 @@ one_more d P items i v within is below b lt =
     ]
 
 -- a byte stands at each place inside
-stands_there : (h : List ℕ) (p : ℕ) → p < length h → slice_get h p ≡ Some (slice_index h p)
+pub stands_there : (h : List ℕ) (p : ℕ) → p < length h → slice_get h p ≡ Some (slice_index h p)
 stands_there h p lt = slice_get-get_or h p 0 lt
 
 -- what stands before a place is a byte, if it is something
@@ -42,22 +43,14 @@ small_at : (h : List ℕ) (p : ℕ) → ((k : ℕ) → slice_index h k < 256) �
 small_at h p small None e = tt
 small_at h p small (Some b) e = subst (λ (c : ℕ). c < 256) (get_index h p b e) (small p)
 
-small_before : (h : List ℕ) (p : ℕ) → ((k : ℕ) → slice_index h k < 256) → IfSome (byte_before h p) (λ b. b < 256)
+pub small_before : (h : List ℕ) (p : ℕ) → ((k : ℕ) → slice_index h k < 256) → IfSome (byte_before h p) (λ b. b < 256)
 small_before h zero small = tt
 small_before h (suc p) small = small_at h p small (slice_get h p) refl
 
 -- what is looked at, and costs nothing
 module _ (t : Told) (h : List ℕ) where
-  -- of a place past which the range ends
-  passed_here : (to k : ℕ) → k < to → (member t.bytes (slice_index h k) && is_costly t.rows (byte_before h k) (slice_index h k)) ≡ false → IsPassed (is_told (Some t)) h to k
-  passed_here to k lt none = (record { marks = 0; returns = 0 }, (lt, inr (inr (none, (refl, refl)))), (refl, refl))
-
-  never : (b : Bool) → (b && false) ≡ false
-  never true = refl
-  never false = refl
-
-  passed_after : (to k : ℕ) → k < to → is_costly t.rows (byte_before h k) (slice_index h k) ≡ false → IsPassed (is_told (Some t)) h to k
-  passed_after to k lt none = passed_here to k lt (ap (λ (b : Bool). member t.bytes (slice_index h k) && b) none ∙ never (member t.bytes (slice_index h k)))
+  pub passed_after : (to k : ℕ) → k < to → is_costly t.rows (byte_before h k) (slice_index h k) ≡ false → IsPassed (is_told (Some t)) h to k
+  passed_after to k lt none = (record { marks = 0; returns = 0 }, (lt, inr (inr (none, (refl, refl)))), (refl, refl))
 
   -- the range may end later
   pub passed_within : (to end k : ℕ) → to ≤ end → IsPassed (is_told (Some t)) h to k → IsPassed (is_told (Some t)) h end k
@@ -74,17 +67,21 @@ module _ (t : Told) (h : List ℕ) where
         | inr other ↦ passed_within place (place + 1) k (omega arith) (earlier k low (omega (arith, high, other)))
       ]
 
-  -- what a scan passes over
-  pub passed_unseen : (from place to : ℕ) → place ≤ to → ArePassed t h from place → NoneSeenBefore t.bytes h place to → ArePassed t h from to
-  passed_unseen from place to ordered earlier none k low high =
-      elim (cases_lt k place) [
-        | inl before ↦ passed_within place to k ordered (earlier k low before)
-        | inr later ↦ passed_here to k high (ap (λ (b : Bool). b && is_costly t.rows (byte_before h k) (slice_index h k)) (none k later high))
-      ]
+  module _ (small : (k : ℕ) → slice_index h k < 256) where
+    passed_out : (to k : ℕ) → k < to → member t.bytes (slice_index h k) ≡ false → IsPassed (is_told (Some t)) h to k
+    passed_out to k lt out = passed_after to k lt (t.told (slice_index h k) (small k) out (byte_before h k) (small_before h k small))
 
-  pub passed_seen : (from place to seen : ℕ) → ArePassed t h from place → IsNextSeen t.bytes h place to seen → is_costly t.rows (byte_before h seen) (slice_index h seen) ≡ false
-      → ArePassed t h from (seen + 1)
-  passed_seen from place to seen earlier next none = passed_one from seen (passed_unseen from place seen next.passed earlier next.none) none
+    -- what a scan passes over
+    pub passed_unseen : (from place to : ℕ) → place ≤ to → ArePassed t h from place → NoneSeenBefore t.bytes h place to → ArePassed t h from to
+    passed_unseen from place to ordered earlier none k low high =
+        elim (cases_lt k place) [
+          | inl before ↦ passed_within place to k ordered (earlier k low before)
+          | inr later ↦ passed_out to k high (none k later high)
+        ]
+
+    pub passed_seen : (from place to seen : ℕ) → ArePassed t h from place → IsNextSeen t.bytes h place to seen → is_costly t.rows (byte_before h seen) (slice_index h seen) ≡ false
+        → ArePassed t h from (seen + 1)
+    passed_seen from place to seen earlier next none = passed_one from seen (passed_unseen from place seen next.passed earlier next.none) none
 
   -- what is looked at past other places
   pub next_past : (from near to p : ℕ) → from ≤ near → ArePassed t h from near → IsNextCostly t h near to p → IsNextCostly t h from to p
@@ -113,15 +110,30 @@ module _ (t : Told) (h : List ℕ) where
       let next : place + 1 ≡ suc place = omega arith in
       sym (ap (λ (p : ℕ). row_of t.rows (byte_before h p)) next ∙ ap (row_of t.rows) (stands_there h place lt))
 
+-- a price that is told, and is nothing
+pub free_price : (o : Option Price) → costs_nothing o ≡ true → (c : Price) × (o ≡ Some c) × IsNothing c
+free_price None e = absurd (true≢false (sym e))
+free_price (Some c) e =
+    let parts = both (c.marks == 0) _ e in
+    (c, refl, (eqb-true c.marks 0 parts.0, eqb-true c.returns 0 parts.1))
+
+-- one more place of which a price is told
+pub one_more_told : (entry : EntryTest) (h : List ℕ) (from n p r : ℕ) (c : Price) → p ≡ from + n → IsToldOf entry h p c → TakeInAll entry h from n r → TakeInAll entry h from (suc n) (r + c.returns)
+one_more_told entry h from n p r c e told all = (c, subst (λ (k : ℕ). IsToldOf entry h k c) e told, r, refl, all)
+
+pub one_told : (entry : EntryTest) (h : List ℕ) (from n : ℕ) (c : Price) → n ≡ 1 → IsToldOf entry h from c → TakeInAll entry h from n c.returns
+one_told entry h from n c e told =
+    subst (λ (k : ℕ). TakeInAll entry h from k c.returns) (sym e) (c, subst (λ (k : ℕ). IsToldOf entry h k c) from_here told, 0, omega arith, refl) where
+      from_here : from ≡ from + 0
+      from_here = omega arith
+
 -- what is told without what stands before
 pub told_after : (code : Code) (row : List (Option Price)) → TellsRow code None row → (k : Before) → TellsRow code (Some k) row
 told_after code row tells k b lt =
     IfSome_then (slice_index_or row b None) (tells b lt)
     (λ c dies. (dies_told (instrs_of code) code.meaning b (Some k) c.marks c.returns code.start dies.0, dies.1))
 
-module _ (bytes : ByteFlags) (rows : Rows) (code : Code) (tells : TellRows code rows)
-    (none : (b : ℕ) → b < 256 → member bytes b ≡ false → (k : ℕ) → k < vec_len rows.rows → costly_in (slice_get rows.rows.items k) b ≡ false)
-    (behind : Option (List (Option Price))) (tells_behind : IfSome behind (TellsRowBehind code)) where
+module _ (rows : Rows) (code : Code) (tells : TellRows code rows) (behind : Option (List (Option Price))) (tells_behind : IfSome behind (TellsRowBehind code)) where
   module _ (q : Query) (is : IsCodeOf q.sought.pattern code) (meant : q.sought.meaning ≡ code.meaning) (inside : q.request.range_end ≤ length q.haystack)
       (small : (k : ℕ) → slice_index q.haystack k < 256) (p : ℕ) (lt : p < q.request.range_end) where
     abbrev here : ℕ
@@ -150,33 +162,18 @@ module _ (bytes : ByteFlags) (rows : Rows) (code : Code) (tells : TellRows code 
         (tell (context_of q) q.request.range_end (depth (length q.haystack) q.sought.pattern + 1) (initial q p) (replicate code.groups 0) stands))
         (λ inner. absurd (true≢false (sym inner ∙ whole)))
 
-    row_within : (o : Option ℕ) → IfSome o (λ b. b < 256) → number_before rows.numbers o < vec_len rows.rows
-    row_within None lt = rows.some
-    row_within (Some b) lt = rows.numbered b lt
-
-    -- it is said in no row that the byte costs something, or not in the one that serves
-    passes : (m : Bool) → member bytes here ≡ m → (m && is_costly rows before here) ≡ false → is_costly rows before here ≡ false
-    passes true is e = e
-    passes false out e = none here (small p) out (number_before rows.numbers before) (row_within before (small_before q.haystack p small))
-
-    free_price : (o : Option Price) → not (costs_nothing o) ≡ false → (c : Price) × (o ≡ Some c) × IsNothing c
-    free_price None e = absurd (true≢false e)
-    free_price (Some c) e =
-        let parts = both (c.marks == 0) _ (on _ e) in
-        (c, refl, (eqb-true c.marks 0 parts.0, eqb-true c.returns 0 parts.1))
-
     free_in : (o : Option Row) → costly_in o here ≡ false → (c : Price) × (price_in o here ≡ Some c) × IsNothing c
     free_in None e = absurd (true≢false e)
-    free_in (Some row) e = free_price (slice_index_or row.prices here None) (sym (row.free here (small p)) ∙ e)
+    free_in (Some row) e = free_price (slice_index_or row.prices here None) (on _ (sym (row.free here (small p)) ∙ e))
 
-    by_row : (member bytes here && is_costly rows before here) ≡ false → (c : Price) → IsNothing c → CostsAt q p c
+    by_row : is_costly rows before here ≡ false → (c : Price) → IsNothing c → CostsAt q p c
     by_row passed c is_nothing =
-        let free = free_in (row_of rows before) (passes (member bytes here) refl passed) in
+        let free = free_in (row_of rows before) passed in
         let costs = by_price free.0 free.1 in
         record { none = costs.none; marks = omega (arith, costs.marks, free.2.0); returns = costs.returns ∙ free.2.1 ∙ sym is_nothing.1 }
 
   pub entries_of : AreEntries (λ second before here c. (price_after rows before here ≡ Some c)
-      ⊎ (((is_continuation here ≡ false) × (price_behind behind second ≡ Some c)) ⊎ (((member bytes here && is_costly rows before here) ≡ false) × IsNothing c))) code
+      ⊎ (((is_continuation here ≡ false) × (price_behind behind second ≡ Some c)) ⊎ ((is_costly rows before here ≡ false) × IsNothing c))) code
   entries_of q is meant inside small p lt c told =
       elim told [
         | inl priced ↦ by_price q is meant inside small p lt c priced

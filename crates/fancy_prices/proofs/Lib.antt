@@ -4,6 +4,7 @@ pub mod SumOfPrices
 pub mod BeginLemmas
 pub mod DyingWays
 pub mod EntryLemmas
+mod AroundLemmas
 pub mod FlagLemmas
 pub mod FactLemmas
 pub mod BehindLemmas

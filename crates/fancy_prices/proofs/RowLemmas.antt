@@ -14,7 +14,8 @@ use Rattle.fancy_prices.specs.declared.rows.Row.{Row}
 use Rattle.fancy_prices.specs.declared.rows.Rows.{Rows}
 use Rattle.fancy_prices.specs.Facts.{IsOfKind}
 use Rattle.fancy_prices.specs.Rows.{TellsAfter, TellsByte, TellsRow}
-use Rattle.fancy_prices.specs.Entries.{TellRows, number_before, price_in}
+use Rattle.fancy_prices.specs.Entries.{TellRows}
+use Rattle.fancy_prices.specs.Around.{number_before, price_in}
 
 get_left : {A : Type 0} (xs ys : List A) (k : ℕ) → k < length xs → slice_get (xs ++ ys) k ≡ slice_get xs k
 get_left [] ys k lt = absurd (omega (arith, lt))

@@ -1,21 +1,19 @@
 -- The positions at which a search must make an attempt.
-use Rattle.std.specs.Prelude.{◌≡◌, ℕ, ◌+◌, ◌-◌, ◌<◌, ◌≤◌, ◌⊎◌, Bool, true, false, ◌&&◌, List, length, Option, Some, None, IfSome, slice_get, slice_index, slice_index_or, Box}
+use Rattle.std.specs.Prelude.{◌≡◌, ℕ, zero, suc, ◌+◌, ◌-◌, ◌<◌, ◌≤◌, ◌⊎◌, false, List, length, Option, Some, None, IfSome, slice_index, Box}
 use Rattle.std.specs.Global.{Global}
 use Rattle.fancy_input.specs.Lines.{byte_before}
 use Rattle.fancy_input.specs.Places.{is_continuation}
-use Rattle.fancy_bytes.specs.Sets.{member}
 use Rattle.fancy_code.specs.declared.code.Code.{Code}
-use Rattle.fancy_code.specs.Code.{instrs_of}
 use Rattle.fancy_code.specs.Compile.{IsCodeOf}
 use Rattle.fancy_meaning.specs.Search.{Query}
 use Rattle.fancy_prices.specs.declared.entries.Entries.{Entries}
-use Rattle.fancy_prices.specs.declared.rows.Row.{Row}
 use Rattle.fancy_prices.specs.declared.rows.Rows.{Rows}
+use Rattle.fancy_prices.specs.declared.entries.Priced.{Priced}
 use Rattle.fancy_prices.specs.declared.entries.Told.{Told}
-use Rattle.fancy_prices.specs.declared.facts.Ending.TheVariants.{Second}
 use Rattle.fancy_prices.specs.declared.price.Price.{Price}
-use Rattle.fancy_prices.specs.Prices.{CostsAt, DiesBehind, IsNothing}
+use Rattle.fancy_prices.specs.Prices.{CostsAt, IsNothing}
 use Rattle.fancy_prices.specs.Rows.{TellsAfter}
+use Rattle.fancy_prices.specs.Around.{is_costly, price_after, price_behind}
 
 -- what is told, out of its box
 abbrev pub unboxed : Option (Box Told Global) → Option Told
@@ -26,42 +24,12 @@ unboxed (Some b) = Some b.value
 abbrev pub EntryTest : Type 1
 EntryTest = Option ℕ → Option ℕ → ℕ → Price → Type 0
 
--- the number of the row that serves after what stands before: the first serves where nothing does
-abbrev pub number_before : List ℕ → Option ℕ → ℕ
-number_before numbers None = 0
-number_before numbers (Some b) = slice_index numbers b
-
-abbrev pub row_of : Rows → Option ℕ → Option Row
-row_of r before = slice_get r.rows.items (number_before r.numbers before)
-
--- the price in a row, for this byte
-abbrev pub price_in : Option Row → ℕ → Option Price
-price_in None here = None
-price_in (Some row) here = slice_index_or row.prices here None
-
-abbrev pub price_after : Rows → Option ℕ → ℕ → Option Price
-price_after r before here = price_in (row_of r before) here
-
--- whether a row says of this byte that an attempt costs something, or may find a match
-abbrev pub costly_in : Option Row → ℕ → Bool
-costly_in None here = true
-costly_in (Some row) here = slice_index_or row.costly here false
-
-abbrev pub is_costly : Rows → Option ℕ → ℕ → Bool
-is_costly r before here = costly_in (row_of r before) here
-
--- the price in the row of what stands before the byte before
-abbrev pub price_behind : Option (List (Option Price)) → Option ℕ → Option Price
-price_behind None second = None
-price_behind (Some row) None = None
-price_behind (Some row) (Some b) = slice_index_or row b None
-
--- the price is in a row, or nothing where the byte is none of those at which an attempt costs something after what stands before
+-- the price is in a row, or in that of the byte before the one before, or nothing where a row says so
 abbrev pub is_told : Option Told → EntryTest
 is_told None second before here c = ⊥
 is_told (Some t) second before here c =
     (price_after t.rows before here ≡ Some c)
-    ⊎ (((is_continuation here ≡ false) × (price_behind t.behind second ≡ Some c)) ⊎ (((member t.bytes here && is_costly t.rows before here) ≡ false) × IsNothing c))
+    ⊎ (((is_continuation here ≡ false) × (price_behind t.behind second ≡ Some c)) ⊎ ((is_costly t.rows before here ≡ false) × IsNothing c))
 
 abbrev pub is_entry : Entries → EntryTest
 is_entry e = is_told (unboxed e.told)
@@ -70,14 +38,6 @@ is_entry e = is_told (unboxed e.told)
 abbrev pub TellRows : Code → Rows → Type 0
 TellRows code r =
     (before : Option ℕ) → IfSome before (λ b. b < 256) → (here : ℕ) → here < 256 → TellsAfter code before here (price_after r before here)
-
--- where the price is told of a byte, an attempt dies and costs that where this is the one before the byte before it
-abbrev pub TellsBehind : Code → ℕ → Option Price → Type 0
-TellsBehind code second price = IfSome price (λ c. DiesBehind (instrs_of code) (Second second) c.marks c.returns code.start)
-
--- so it is for each byte
-abbrev pub TellsRowBehind : Code → List (Option Price) → Type 0
-TellsRowBehind code row = (b : ℕ) → b < 256 → TellsBehind code b (slice_index_or row b None)
 
 -- this is told of p
 abbrev pub IsToldOf : EntryTest → List ℕ → ℕ → Price → Type 0
@@ -113,3 +73,15 @@ pub record IsNextCostly (told : Told) (haystack : List ℕ) (from to p : ℕ) : 
   pub passed : from ≤ p
   pub within : p ≤ to
   pub none : ArePassed told haystack from p
+
+-- of each of so many places from p on a price is told, and so many returns they take in all
+abbrev pub TakeInAll : EntryTest → List ℕ → ℕ → ℕ → ℕ → Type 0
+TakeInAll entry haystack p zero returns = returns ≡ 0
+TakeInAll entry haystack p (suc n) returns =
+    (c : Price) × IsToldOf entry haystack (p + n) c × (before : ℕ) × (returns ≡ before + c.returns) × TakeInAll entry haystack p n before
+
+-- So it is of the places from the one on, up to the other at most.
+pub record ArePricedFrom (entry : EntryTest) (haystack : List ℕ) (from to : ℕ) (priced : Priced) : Type 0 where
+  pub passed : from < priced.past
+  pub within : priced.past ≤ to
+  pub returns : TakeInAll entry haystack from (priced.past - from) priced.returns

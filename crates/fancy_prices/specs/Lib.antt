@@ -1,5 +1,6 @@
 pub mod Facts
 pub mod Prices
+pub mod Around
 pub mod Entries
 pub mod Splits
 pub mod Front

@@ -1,17 +1,21 @@
 //! The positions at which a search must enter the code: at each other one an attempt finds nothing, and what it costs is told.
 
 ghost use Rattle.std.specs.Prelude.{◌≡◌, ℕ, ◌+◌, ◌-◌, ◌<◌, ◌≤◌, true, false, None, Some, IfOk, IfSome, MatchOption, length, slice_index};
+ghost use Rattle.std.specs.Option.{ForSome};
 ghost use Rattle.fancy_input.specs.Lines.{byte_before};
 ghost use Rattle.fancy_input.specs.Places.{is_continuation};
 ghost use Rattle.fancy_code.specs.declared.code.Code.{Code};
 ghost use Rattle.fancy_bytes.specs.Sets.{member};
-ghost use Rattle.fancy_prices.specs.Entries.{ArePassed, AreEntries, IsNextEntry, IsNextCostly, IsToldAt, IsToldOf, TellsRowBehind, is_costly, is_entry, is_told, price_behind, unboxed};
+ghost use Rattle.fancy_prices.specs.Around.{CostsNothingAt, IsAround, TellsRowBehind, is_costly, price_behind, row_of};
 
+use crate::around::{BEFORE, around_of};
 use crate::facts::Ending;
 use crate::free::price_behind;
 use crate::price::Price;
-use crate::rows::{Rows, is_continuation, tells_some};
+use crate::rows::{Row, Rows, is_continuation, tells_some};
 use fancy_code::code::Code;
+use fancy_prefilter::candidates::next_opening;
+use fancy_prefilter::prefilter::Prefilter;
 use fancy_prefilter::scan::Scan;
 use std::alloc::{AllocError, Global};
 
@@ -20,6 +24,9 @@ const DEPTH: usize = 48;
 
 /// How many positions are looked at one at a time before a scan of many.
 const NEAR: usize = 8;
+
+/// From so many positions on the bytes round them are looked for.
+const MANY: usize = 64;
 
 /// The positions at which an attempt must be made, told by the byte there and what stands before it. At each other one within the
 /// searched range an attempt finds nothing, and what it costs is told: how many choices it opens, and how many it takes back.
@@ -46,6 +53,19 @@ struct Told {
     priced: bool,
     // what attempts cost by the byte before the one before their position; none where it tells nothing
     behind: Option<[Option<Price>; 256]>,
+    // what tells by the bytes round it where an attempt costs something, or may find a match; none where those before it tell little
+    around: Option<Prefilter>,
+    ghost told: { (b : ℕ) → b < 256 → member bytes b ≡ false → CostsNothingAt rows b },
+    ghost tells: { ForSome around (IsAround rows behind bytes) },
+}
+
+/// Positions of which it is told that attempts there find nothing.
+#[derive(Clone, Copy)]
+pub struct Priced {
+    /// The position after them.
+    pub past: usize,
+    /// The returns of attempts at them.
+    pub returns: usize,
 }
 
 /// What an attempt costs by the byte before the one before its position.
@@ -71,6 +91,8 @@ fn prices_behind(code: &Code) -> Option<[Option<Price>; 256]>
 }
 
 impl Told {
+    ghost use Rattle.fancy_prices.specs.Entries.{ArePassed, ArePricedFrom, IsNextCostly, IsToldOf, is_told};
+
     /// What an attempt costs at a place, if the byte before the one before it tells that. It is told of no place within a character.
     #[inline]
     fn price_behind(&self, haystack: &[u8], place: usize) -> Option<Price>
@@ -94,10 +116,20 @@ impl Told {
         ensures { IfSome result (IsToldOf (is_told (Some self.now)) haystack.now place) }
     {
         if self.priced {
-            let row = self.rows.before(haystack, place);
-            if let Some(price) = row.prices[haystack[place] as usize] {
-                return Some(price);
-            }
+            return self.price_by(self.rows.before(haystack, place), haystack, place);
+        }
+        self.price_behind(haystack, place)
+    }
+
+    /// The same, by the row that serves there.
+    #[inline]
+    fn price_by(&self, row: &Row, haystack: &[u8], place: usize) -> Option<Price>
+        requires inside { place < length haystack.now }
+        requires row { row_of self.now.rows (byte_before haystack.now place) ≡ Some row.now }
+        ensures { IfSome result (IsToldOf (is_told (Some self.now)) haystack.now place) }
+    {
+        if let Some(price) = row.prices[haystack[place] as usize] {
+            return Some(price);
         }
         self.price_behind(haystack, place)
     }
@@ -150,6 +182,30 @@ impl Told {
         to
     }
 
+    /// The same by the bytes round a place, where they tell more than the one there. Most often an attempt costs something at the first
+    /// place that they let through.
+    #[inline]
+    fn next_around(&self, haystack: &[u8], from: usize, to: usize) -> usize
+        requires ordered { from ≤ to }
+        requires inside { to ≤ length haystack.now }
+        ensures { IsNextCostly self.now haystack.now from to result }
+    {
+        let Some(around) = &self.around else {
+            return self.next_far(haystack, from, to);
+        };
+        if from < BEFORE || to - from < MANY {
+            return self.next_far(haystack, from, to);
+        }
+        let place = next_opening(around, haystack, to, from - BEFORE, to) + BEFORE;
+        if place >= to {
+            return to;
+        }
+        if self.is_costly(haystack, place) {
+            return place;
+        }
+        self.next_far(haystack, place + 1, to)
+    }
+
     /// The same, or else the other place. The near ones are looked at one at a time, and past them many at a time. It is a call of its
     /// own, since most often there is one at the place where it would begin.
     #[inline(never)]
@@ -161,12 +217,51 @@ impl Told {
         let near = from + (to - from).min(NEAR);
         match self.next_near(haystack, from, near) {
             Some(place) => place,
-            None => self.next_far(haystack, near, to),
+            None => self.next_around(haystack, near, to),
         }
+    }
+
+    /// The places from one on, of which this price is told, up to one of which none is told, or at which an attempt may save more
+    /// branches than so many.
+    fn priced_from(
+        &self,
+        haystack: &[u8],
+        price: Price,
+        from: usize,
+        to: usize,
+        most: usize,
+    ) -> Priced
+        requires ordered { from < to }
+        requires few { to ≤ from + 32 }
+        requires inside { to ≤ length haystack.now }
+        requires told { IsToldOf (is_told (Some self.now)) haystack.now from price }
+        ensures { ArePricedFrom (is_told (Some self.now)) haystack.now from to result }
+    {
+        let mut returns = price.returns as usize;
+        let mut row = self.rows.after(haystack[from]);
+        for place in from + 1..to {
+            let Some(price) = self.price_by(row, haystack, place) else {
+                return Priced {
+                    past: place,
+                    returns,
+                };
+            };
+            if price.marks as usize > most {
+                return Priced {
+                    past: place,
+                    returns,
+                };
+            }
+            returns += price.returns as usize;
+            row = self.rows.after(haystack[place]);
+        }
+        Priced { past: to, returns }
     }
 }
 
 impl Entries {
+    ghost use Rattle.fancy_prices.specs.Entries.{AreEntries, ArePricedFrom, IsNextEntry, IsToldAt, IsToldOf, is_entry, unboxed};
+
     /// Any position: nothing is told of the code.
     pub fn all() -> Entries
         ensures { (code : Code) → AreEntries (is_entry result) code }
@@ -187,11 +282,13 @@ impl Entries {
         let priced = rows.cost_some();
         let bytes = rows.costly_bytes();
         let behind = prices_behind(code);
+        let around = around_of(alloc, &rows, &behind, &bytes)?;
         let told = Told {
             bytes: Scan::new(bytes),
             rows,
             priced,
             behind,
+            around,
         };
         Ok(Entries {
             told: Some(Box::new(alloc, told)?),
@@ -223,6 +320,32 @@ impl Entries {
             return None;
         }
         told.price(haystack, place)
+    }
+
+    /// The positions from one on, of which this price is told, up to one of which none is told, or at which an
+    /// attempt may save more branches than so many.
+    #[inline]
+    pub fn priced_from(
+        &self,
+        haystack: &[u8],
+        price: Price,
+        from: usize,
+        to: usize,
+        most: usize,
+    ) -> Priced
+        requires ordered { from < to }
+        requires few { to ≤ from + 32 }
+        requires inside { to ≤ length haystack.now }
+        requires told { IsToldOf (is_entry self.now) haystack.now from price }
+        ensures { ArePricedFrom (is_entry self.now) haystack.now from to result }
+    {
+        match self.told() {
+            Some(told) => told.priced_from(haystack, price, from, to, most),
+            None => Priced {
+                past: from + 1,
+                returns: price.returns as usize,
+            },
+        }
     }
 
     /// The first position, from the one on and up to the last, at which an attempt may find something or costs something, or past the

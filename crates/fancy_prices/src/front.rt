@@ -61,12 +61,12 @@ fn are_among(split: &ToldSplit, items: &ByteSet) -> bool
     true
 }
 
-/// Whether no item of a loop that is one byte is a byte within a character.
-fn are_whole(split: &ToldSplit) -> bool
-    ensures { result ≡ true → AreWhole split.now.items }
+/// Whether no byte of a set is one within a character.
+pub(crate) fn are_whole(bytes: &ByteSet) -> bool
+    ensures { result ≡ true → AreWhole bytes.now }
 {
     for byte in 0..256u32 {
-        if split.is_item(byte as u8) && is_continuation(byte as u8) {
+        if bytes.contains(byte as u8) && is_continuation(byte as u8) {
             return false;
         }
     }
@@ -105,7 +105,7 @@ fn front_from(code: &Code, splits: &Splits, at: usize, deep: usize) -> Option<Fr
             Some(Front {
                 at: *next,
                 before: Price::nothing(),
-                whole: are_whole(split),
+                whole: are_whole(&split.items),
             })
         }
         _ => None,

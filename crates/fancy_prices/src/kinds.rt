@@ -103,7 +103,7 @@ fn wide_bytes() -> ByteSet {
 }
 
 /// The ASCII letters, the digits and `_`.
-fn word_bytes() -> ByteSet {
+pub(crate) fn word_bytes() -> ByteSet {
     let mut bytes = ByteSet::new();
     for byte in 0..0x80u32 {
         if is_word(byte as u8) {
@@ -126,10 +126,11 @@ fn low_members(set: &CharSet) -> ByteSet {
 
 /// Splits the sets by whether a byte is in another one, as long as there are few.
 fn split_by(sets: &mut Vec<ByteSet>, bytes: &ByteSet) -> Result<(), AllocError> {
+    let others = others(bytes);
     let count = sets.len();
     for i in 0..count {
         let inside = sets[i].intersection(bytes);
-        let outside = sets[i].intersection(&others(bytes));
+        let outside = sets[i].intersection(&others);
         if !inside.is_empty() && !outside.is_empty() && sets.len() < MOST {
             sets[i] = inside;
             sets.push(outside)?;

@@ -1,6 +1,6 @@
 //! What attempts cost, by the byte at which they are made, for what stands before.
 
-ghost use Rattle.std.specs.Prelude.{◌≡◌, ℕ, ◌<◌, ◌≤◌, true, false, None, Some, IfOk, if◌then◌else◌, length, slice_get, slice_index, vec_len};
+ghost use Rattle.std.specs.Prelude.{◌≡◌, ℕ, ◌<◌, ◌≤◌, true, false, None, Some, IfOk, if◌then◌else◌, length, slice_get, slice_index, slice_index_or, vec_len};
 ghost use Rattle.fancy_input.specs.Lines.{byte_before};
 ghost use Rattle.fancy_input.specs.Places.{is_continuation};
 ghost use Rattle.fancy_bytes.specs.Sets.{member};
@@ -108,7 +108,7 @@ fn prices_after(
 }
 
 /// Whether an attempt costs nothing.
-fn is_free(price: Option<Price>) -> bool
+pub(crate) fn is_free(price: Option<Price>) -> bool
     ensures { result ≡ costs_nothing price }
 {
     match price {
@@ -135,6 +135,19 @@ impl Row {
         let costly = costly_of(&prices);
         Row { prices, costly }
     }
+
+    /// Whether an attempt costs something, or may find a match, at some byte.
+    fn has_costly(&self) -> bool
+        ensures { result ≡ false → (b : ℕ) → b < 256
+            → slice_index_or self.now.costly b false ≡ false }
+    {
+        for byte in 0..256u32 {
+            if self.costly[byte as usize] {
+                return true;
+            }
+        }
+        false
+    }
 }
 
 /// The numbers, with this one for each byte of the set.
@@ -152,7 +165,8 @@ fn numbered(numbers: [u8; 256], bytes: &ByteSet, number: u8) -> [u8; 256]
 }
 
 impl Rows {
-    ghost use Rattle.fancy_prices.specs.Entries.{TellRows, costly_in, row_of};
+    ghost use Rattle.fancy_prices.specs.Entries.{TellRows};
+    ghost use Rattle.fancy_prices.specs.Around.{costly_in, row_of};
 
     /// The same after anything.
     fn alike(alloc: Global, code: &Code, plain: [Option<Price>; 256]) -> Result<Rows, AllocError>
@@ -260,6 +274,20 @@ impl Rows {
         let mut bytes = ByteSet::new();
         for byte in 0..256u32 {
             if self.is_costly_at(byte as u8) {
+                bytes.insert(byte as u8);
+            }
+        }
+        bytes
+    }
+
+    /// The bytes after which one does, at some byte.
+    pub(crate) fn bytes_before(&self) -> ByteSet
+        ensures { (b : ℕ) → b < 256 → member result b ≡ false
+            → (here : ℕ) → here < 256 → costly_in (row_of self.now (Some b)) here ≡ false }
+    {
+        let mut bytes = ByteSet::new();
+        for byte in 0..256u32 {
+            if self.after(byte as u8).has_costly() {
                 bytes.insert(byte as u8);
             }
         }

@@ -45,7 +45,7 @@ pub struct ToldSplit {
     /// Whether the second way cannot go on where an item of one byte stands.
     pub apart: bool,
     // bytes that are an item by themselves
-    items: ByteSet,
+    pub(crate) items: ByteSet,
     // bytes at which the first way may cost something, or find a match
     begins: ByteSet,
     // bytes at which the second way may cost something, or find a match

@@ -1,5 +1,5 @@
 use Rattle.std.proofs.Common.{None, ◌∙◌, arith, length-set}
-use Rattle.fancy_prices.specs.Entries.{TellsBehind}
+use Rattle.fancy_prices.specs.Around.{TellsBehind}
 use Rattle.fancy_prices.proofs.EntryLemmas.{one_more}
 use Rattle.fancy_prices.proofs.entries.row_behind.Goals as goal
 

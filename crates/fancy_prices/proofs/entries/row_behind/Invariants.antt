@@ -1,6 +1,6 @@
 use Rattle.std.proofs.Common.{◌≡◌, ◌<◌, ℕ, None, length}
 use Rattle.std.specs.Prelude.{slice_index_or}
-use Rattle.fancy_prices.specs.Entries.{TellsBehind}
+use Rattle.fancy_prices.specs.Around.{TellsBehind}
 use Rattle.fancy_prices.proofs.entries.row_behind.Given as goal
 
 abbrev pub invariant-loop-byte : goal.invariant-loop-byte

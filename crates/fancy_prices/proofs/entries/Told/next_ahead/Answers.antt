@@ -9,4 +9,4 @@ returns-in-Some c =
 
 pub returns-in-None : goal.returns-in-None
 returns-in-None c =
-    next_past c.args.self.now c.args.haystack.now c.args.from (c.args.from + c.min.result) c.args.to c.next_far.result (omega arith) c.in-None.ensures c.next_far.ensures
+    next_past c.args.self.now c.args.haystack.now c.args.from (c.args.from + c.min.result) c.args.to c.next_around.result (omega arith) c.in-None.ensures c.next_around.ensures

@@ -7,7 +7,7 @@ returns-in_default c =
     record {
       passed = c.requires.ordered;
       within = omega arith;
-      none = passed_unseen c.args.self.now c.args.haystack.now c.args.from c.loop-place.place c.args.to c.loop-place.invariant.within c.loop-place.invariant.none c.in_default.ensures;
+      none = passed_unseen c.args.self.now c.args.haystack.now (λ k. omega (arith, c.type_inv.haystack k)) c.args.from c.loop-place.place c.args.to c.loop-place.invariant.within c.loop-place.invariant.none c.in_default.ensures;
     }
 
 pub returns-then-is_costly : goal.returns-then-is_costly
@@ -16,7 +16,7 @@ returns-then-is_costly c =
     record {
       passed = omega (arith, c.loop-place.invariant.passed, seen.passed);
       within = omega (arith, seen.within);
-      none = passed_unseen c.args.self.now c.args.haystack.now c.args.from c.loop-place.place c.in-Some.seen seen.passed c.loop-place.invariant.none seen.none;
+      none = passed_unseen c.args.self.now c.args.haystack.now (λ k. omega (arith, c.type_inv.haystack k)) c.args.from c.loop-place.place c.in-Some.seen seen.passed c.loop-place.invariant.none seen.none;
     }
 
 pub loop-place-preserved : goal.loop-place-preserved
@@ -25,7 +25,7 @@ loop-place-preserved c =
     record {
       passed = omega (arith, c.loop-place.invariant.passed, seen.passed);
       within = omega (arith, seen.within);
-      none = passed_seen c.args.self.now c.args.haystack.now c.args.from c.loop-place.place c.args.to c.in-Some.seen c.loop-place.invariant.none seen (sym c.is_costly.ensures ∙ c.if-is_costly.false);
+      none = passed_seen c.args.self.now c.args.haystack.now (λ k. omega (arith, c.type_inv.haystack k)) c.args.from c.loop-place.place c.args.to c.in-Some.seen c.loop-place.invariant.none seen (sym c.is_costly.ensures ∙ c.if-is_costly.false);
     }
 
 pub returns : goal.returns

@@ -1,6 +1,6 @@
 use Rattle.std.proofs.Common.{Option, ◌∙◌, arith, ap, sym, slice_index}
 use Rattle.fancy_prices.specs.declared.rows.Row.{Row}
-use Rattle.fancy_prices.specs.Entries.{costly_in}
+use Rattle.fancy_prices.specs.Around.{costly_in}
 use Rattle.fancy_prices.proofs.EntryLemmas.{passed_one, passed_up_to, row_next}
 use Rattle.fancy_prices.proofs.entries.Told.next_near.Goals as goal
 

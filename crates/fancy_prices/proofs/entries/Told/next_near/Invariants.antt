@@ -1,6 +1,7 @@
 use Rattle.std.proofs.Common.{◌≡◌, ◌≤◌, Some}
 use Rattle.fancy_input.specs.Lines.{byte_before}
-use Rattle.fancy_prices.specs.Entries.{ArePassed, row_of}
+use Rattle.fancy_prices.specs.Entries.{ArePassed}
+use Rattle.fancy_prices.specs.Around.{row_of}
 use Rattle.fancy_prices.proofs.entries.Told.next_near.Given as goal
 
 abbrev pub invariant-loop-place : goal.invariant-loop-place

@@ -1,7 +1,7 @@
 use Rattle.std.proofs.Common.{◌≡◌, ◌<◌, ℕ, false, slice_get}
 use Rattle.std.specs.Prelude.{vec_len}
 use Rattle.fancy_bytes.specs.Sets.{member}
-use Rattle.fancy_prices.specs.Entries.{costly_in}
+use Rattle.fancy_prices.specs.Around.{costly_in}
 use Rattle.fancy_prices.proofs.rows.Rows.costly_bytes.Given as goal
 
 abbrev pub invariant-loop-byte : goal.invariant-loop-byte
