@@ -4,7 +4,7 @@ use Rattle.std.specs.Prelude.{IsErrAnd}
 use Rattle.fancy_input.specs.declared.refusal.SearchRefusal.{SearchRefusal}
 use Rattle.fancy_input.specs.declared.refusal.SearchRefusal.TheVariants.{Returns, Choices, Steps}
 use Rattle.fancy_input.specs.declared.work.Work.{Work}
-use Rattle.fancy_input.specs.Work.{returns_of, AddsReturns, IsWithin}
+use Rattle.fancy_input.specs.Work.{returns_of, AddsReturns, IsSpent, IsWithin}
 use Rattle.fancy_code.specs.declared.found.Found.{Found}
 use Rattle.fancy_meaning.specs.declared.options.SearchOptions.{SearchOptions}
 use Rattle.fancy_code.specs.Queries.{answer_with}
@@ -34,6 +34,11 @@ keeps_returns count adds = record { steps = adds.steps; returns = adds.returns; 
 -- nothing was done, and it was not refused
 pub limits_none : {B : Type 0} {limit : ℕ} {most : Option ℕ} {x : B} {work : Work} → returns_of work ≤ limit → HeedsLimits limit most (Ok x) work work
 limits_none room = record { stopped = λ e. absurd (cc); fits = room; within = λ is. is; limited = λ e. absurd (cc) }
+
+-- what was done alone heeds them
+pub limits_of : {A : Type 0} {limit : ℕ} {most : Option ℕ} {q : Result A SearchRefusal} {before after : Work} → (q ≡ Err Returns → returns_of after ≡ limit) → returns_of after ≤ limit
+    → (IsWithin most before → IsWithin most after) → (q ≡ Err Steps → IsSpent most after) → HeedsLimits limit most q before after
+limits_of stopped fits within limited = record { stopped = stopped; fits = fits; within = within; limited = limited }
 
 -- the last of two parts was not refused, and so are both
 pub limits_ok : {A B : Type 0} {limit : ℕ} {most : Option ℕ} {x : B} {r : Result A SearchRefusal} {before between after : Work} → (IsWithin most before → IsWithin most between)

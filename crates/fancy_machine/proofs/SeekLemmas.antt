@@ -46,14 +46,11 @@ module _ (q : Query) (seek : Bool) (from last place : ℕ) (passed : from ≤ pl
 -- what the search passes over, by its arguments
 module _ (q : Query) (code : Code) (options : SearchOptions) (haystack : List ℕ) (request : Request) (continues : Bool) (is : q ≡ query_of q.sought.pattern code options haystack request continues)
     (some : ∥ IsCodeOf q.sought.pattern code ∥₁) (bytes : (k : ℕ) → slice_index haystack k < 256) (inside : request.range_end ≤ length haystack)
-    (entry : EntryTest) (are : AreEntries entry code) (from last place : ℕ) (ordered : from ≤ last + 1)
-    (sought : options.seek ≡ true → IsNextCandidate code.prefilter.starts haystack request.range_end from last place)
-    (each : options.seek ≡ false → IsNextEntry entry haystack request.range_end from last place) where
-  -- what an attempt costs that is told to cost nothing
-  price_of : IsCodeOf q.sought.pattern code → (k : ℕ) → (passed : IsPassed entry haystack request.range_end k) → CostsAt q k passed.0
-  price_of of k passed =
+    (entry : EntryTest) (are : AreEntries entry code) where
+  price_of : IsCodeOf q.sought.pattern code → (k : ℕ) (c : Price) → IsToldAt entry haystack request.range_end k c → CostsAt q k c
+  price_of of k c told =
       are q of (ap (λ (r : Query). r.sought.meaning) is) (omega (arith, inside, ends, ap length here)) (λ p. subst (λ (h : List ℕ). slice_index h p < 256) here (bytes p))
-      k (omega (arith, passed.1.0, ends)) passed.0 (subst (λ (h : List ℕ). IsToldOf entry h k passed.0) here passed.1.1)
+      k (omega (arith, told.0, ends)) c (subst (λ (h : List ℕ). IsToldOf entry h k c) here told.1)
     where
       here : haystack ≡ q.haystack
       here = sym (ap (λ (r : Query). r.haystack) is)
@@ -61,25 +58,36 @@ module _ (q : Query) (code : Code) (options : SearchOptions) (haystack : List �
       ends : request.range_end ≡ q.request.range_end
       ends = sym (ap (λ (r : Query). r.request.range_end) is)
 
-  on : IsCodeOf q.sought.pattern code → GoesOn q options.seek from last place
-  on of = by options.seek refl where
-    by : (b : Bool) → options.seek ≡ b → GoesOn q options.seek from last place
-    by true e =
-        let over = passed_over q code options haystack request continues is bytes from last place ordered sought (λ off. absurd (true≢false (sym e ∙ off))) of in
-        goes_on_past q options.seek from last place over.passed over.within over.starts
-        (λ k low high. untried_costs_nothing q (tried options.seek q) k (over.untried k low high) (over.none k low high))
-    by false e =
-        let next = each e in
-        goes_on_past q options.seek from last place next.passed next.within (λ le. ap (λ (b : Bool). not b || may_begin q place) e)
-        (λ k low high. let passed = next.none k low high in priced_costs_nothing q (tried options.seek q) k passed.0 (price_of of k passed) passed.2)
-
-  pub goes_on : GoesOn q options.seek from last place
-  goes_on = record {
-    tries = λ le. ∥∥₁_elim some (hlevel props) (λ of. (on of).tries le);
-    answer = ∥∥₁_elim some (hlevel props) (λ of. (on of).answer);
-    returns = ∥∥₁_elim some (hlevel props) (λ of. (on of).returns);
-    marks = ∥∥₁_elim some (hlevel props) (λ of. (on of).marks);
+  -- what an attempt costs, where that is told
+  pub costs_asked : (k : ℕ) (c : Price) → IsToldAt entry haystack request.range_end k c → CostsAt q k c
+  costs_asked k c told = record {
+    none = ∥∥₁_elim some (hlevel props) (λ of. (price_of of k c told).none);
+    marks = ∥∥₁_elim some (hlevel props) (λ of. (price_of of k c told).marks);
+    returns = ∥∥₁_elim some (hlevel props) (λ of. (price_of of k c told).returns);
   }
+
+  module _ (from last place : ℕ) (ordered : from ≤ last + 1)
+      (sought : options.seek ≡ true → IsNextCandidate code.prefilter.starts haystack request.range_end from last place)
+      (each : options.seek ≡ false → IsNextEntry entry haystack request.range_end from last place) where
+    on : IsCodeOf q.sought.pattern code → GoesOn q options.seek from last place
+    on of = by options.seek refl where
+      by : (b : Bool) → options.seek ≡ b → GoesOn q options.seek from last place
+      by true e =
+          let over = passed_over q code options haystack request continues is bytes from last place ordered sought (λ off. absurd (true≢false (sym e ∙ off))) of in
+          goes_on_past q options.seek from last place over.passed over.within over.starts
+          (λ k low high. untried_costs_nothing q (tried options.seek q) k (over.untried k low high) (over.none k low high))
+      by false e =
+          let next = each e in
+          goes_on_past q options.seek from last place next.passed next.within (λ le. ap (λ (b : Bool). not b || may_begin q place) e)
+          (λ k low high. let passed = next.none k low high in priced_costs_nothing q (tried options.seek q) k passed.0 (price_of of k passed.0 passed.1) passed.2)
+
+    pub goes_on : GoesOn q options.seek from last place
+    goes_on = record {
+      tries = λ le. ∥∥₁_elim some (hlevel props) (λ of. (on of).tries le);
+      answer = ∥∥₁_elim some (hlevel props) (λ of. (on of).answer);
+      returns = ∥∥₁_elim some (hlevel props) (λ of. (on of).returns);
+      marks = ∥∥₁_elim some (hlevel props) (λ of. (on of).marks);
+    }
 
 -- what an attempt costs, where that is told
 pub told_costs : (q : Query) (a : Attempt) → Serves a q → ∥ IsCodeOf q.sought.pattern a.code.now ∥₁ → q.request.range_end ≤ length q.haystack → ((k : ℕ) → slice_index a.haystack.now k < 256)

@@ -82,7 +82,7 @@ fn read_whole(
 
 /// Goes on at the start of an atomic group round a loop of one item. Where bytes tell all that the group reads, the way goes on after
 /// it: of the branches that its choices save the last alone is taken, and the group drops the others. Elsewhere its region begins.
-#[inline(never)]
+#[inline]
 pub(crate) fn pass_atom(
     attempt: &Attempt,
     atom: &ToldAtom,

@@ -331,10 +331,26 @@ fn pass_priced(
     Ok(priced.past)
 }
 
+/// What an attempt costs at a position, if it is told that it finds nothing there, and saves no more branches than the options allow.
+#[inline(always)]
+fn told_price(asked: &Asked<'_>, haystack: &[u8], position: usize) -> Option<Price>
+    requires inside { asked.now.request.range_end ≤ length haystack.now }
+    ensures { IfSome result (IsToldAt (is_entry asked.now.prices.now.entries)
+        haystack.now asked.now.request.range_end position) }
+{
+    let range_end = asked.request.range_end;
+    let price = asked.prices.entries.price(haystack, range_end, position)?;
+    if price.marks as usize <= asked.options.stack_limit {
+        return Some(price);
+    }
+    None
+}
+
 /// Makes one attempt alone, at a position from the effective start on. What is found is what [`search`] would take at this
 /// position, whatever stands at the positions before: `\G` holds at the effective start of the request.
 ///
-/// What is done is added to the counts of `work`, as by [`search`].
+/// Where the prices tell that it would find nothing, and what it would cost, the machine is not entered: its returns are counted, and
+/// a step for each. What is done is added to the counts of `work`, as by [`search`].
 ///
 /// # Errors
 ///
@@ -360,8 +376,12 @@ pub fn attempt_at(
     let splits = &asked.prices.splits;
     let request = asked.request;
     let options = asked.options;
-    let attempt = Attempt::new(code, splits, haystack, request, options, asked.continues);
     let limit = work.returns() + options.backtrack_limit;
+    if let Some(price) = told_price(asked, haystack, position) {
+        work.count_returns(price.returns as usize, limit, options.step_limit)?;
+        return Ok(None);
+    }
+    let attempt = Attempt::new(code, splits, haystack, request, options, asked.continues);
     cache.seen.last_run = LastRun::none();
     ready_last_lines(&mut cache.seen.last_lines, attempt.haystack, false);
     try_position(&attempt, position, request.range_end, limit, cache, work)
