@@ -29,7 +29,8 @@ use Rattle.fancy_meaning.specs.Trace.{outcomes}
 use Rattle.fancy_code.proofs.WholeCode.{program_gives}
 use Rattle.fancy_search.specs.declared.asked.Asked.{Asked}
 use Rattle.fancy_search.specs.declared.program.Program.{Program}
-use Rattle.fancy_search.specs.OneItem.{AreOneItems, EachReadsOne, EndsByOne, IsOneItem, ReadsOne, answer_to}
+use Rattle.fancy_search.specs.OneItem.{AreOneItems, EachReadsOne, IsOneItem, ReadsOne, answer_to}
+use Rattle.fancy_search.specs.Starts.{EndsByOne}
 use Rattle.fancy_search.specs.Programs.{program_is_easy, asked_of, query_in}
 use Rattle.fancy_search.proofs.ProgramSizeLemmas.{parts_of_easy}
 use Rattle.fancy_search.proofs.SearchedLemmas.{known}

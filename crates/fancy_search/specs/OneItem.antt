@@ -1,13 +1,10 @@
--- Patterns of one item.
-use Rattle.std.specs.Prelude.{◌≡◌, ◌==◌, ◌&&◌, ◌+◌, ◌<◌, ◌≤◌, ℕ, zero, suc, Bool, true, List, Option, Some, None, length, nat_le, slice_index, if◌then◌else◌}
-use Rattle.fancy_input.specs.declared.input.Request.{Request}
+-- Code of one item.
+use Rattle.std.specs.Prelude.{◌≡◌, ◌==◌, ◌&&◌, ℕ, zero, suc, List, Option, Some, None, nat_le, if◌then◌else◌}
 use Rattle.fancy_tree.specs.Sets.{has}
 use Rattle.fancy_meaning.specs.Context.{Context, moved_to, past_item, past_byte}
 use Rattle.fancy_code.specs.Instructions.{Instruction, Match, Fail, Character, Member, RawByte, Assert, Split, Open, Close, Enter, Commit, Look, Deny, Test, Back, Recall, Keep, Continue, Taken}
 use Rattle.fancy_code.specs.Run.{instr_at}
-use Rattle.fancy_meaning.specs.Search.{Query, Answer, accepted, attempt, initial}
-use Rattle.fancy_search.specs.declared.program.Program.{Program}
-use Rattle.fancy_search.specs.Programs.{program_is_easy, asked_of}
+use Rattle.fancy_meaning.specs.Search.{Query, Answer, accepted, initial}
 
 -- The instruction reads one item at p, after which there is an outcome: at this place, or nowhere if the item does not stand there.
 abbrev pub ReadsOne : Context → Instruction → ℕ → Option ℕ → Type 0
@@ -69,9 +66,3 @@ EachReadsOne code (suc n) q = (first : ℕ) × (second : ℕ) × (instr_at code 
 -- each way from q on reads one item, after which there is an outcome
 abbrev pub AreOneItems : List Instruction → ℕ → Type 0
 AreOneItems code q = (n : ℕ) × EachReadsOne code n q
-
--- The pattern is easy, and where an ASCII byte stands what an attempt finds ends past that byte or before, whatever is asked.
-pub record EndsByOne (s : Program) : Type 0 where
-  pub easy : program_is_easy s ≡ true
-  pub ends : (haystack : List ℕ) (request : Request) (on : Bool) (p : ℕ) (a : Answer) → request.range_end ≤ length haystack → p < request.range_end → slice_index haystack p < 128
-      → attempt (asked_of s haystack request on) p ≡ Some a → a.state.place ≤ p + 1

@@ -1,8 +1,8 @@
 //! The groups of a match, as a search left them in its cache.
 
-ghost use Rattle.std.specs.Prelude.{◌≡◌, IfOk, length};
+ghost use Rattle.std.specs.Prelude.{◌≡◌, ◌<◌, ◌∷◌, Some, IfOk, length};
 ghost use Rattle.fancy_search.specs.Groups.{spans_held, spans_of, span_at};
-ghost use Rattle.fancy_search.specs.Cached.{found_at};
+ghost use Rattle.fancy_search.specs.Cached.{found_at, found_span};
 ghost use Rattle.fancy_search.specs.Programs.{program_groups};
 
 use crate::cache::Cache;
@@ -46,6 +46,7 @@ impl GroupSpans {
 }
 
 /// The spans of the groups of what a search with the program found, in byte offsets.
+#[inline(always)]
 #[tactic(auto, unfolding(crate::specs::Groups::spans_held))]
 pub fn groups_found(
     alloc: Global,
@@ -57,13 +58,34 @@ pub fn groups_found(
         spans_held groups ≡ spans_of (program_groups program.now) (found_at found cache.now)) }
 {
     let count = program.group_count();
-    let mut others = Vec::with_capacity(alloc, count - 1)?;
-    for number in 1..count {
-        others.push(cache.group(number))?;
-    }
     let whole = Span {
         start: found.start,
         end: found.end,
     };
-    Ok(GroupSpans { whole, others })
+    if count > 1 {
+        let others = others_found(alloc, count, cache)?;
+        return Ok(GroupSpans { whole, others });
+    }
+    Ok(GroupSpans {
+        whole,
+        others: Vec::new(alloc),
+    })
+}
+
+/// The spans of groups past group 0, of `count` groups in all. It is a call of its own, since most patterns have group 0 alone.
+#[inline(never)]
+fn others_found(
+    alloc: Global,
+    count: usize,
+    cache: &Cache,
+) -> std::result::Result<Vec<Option<Span>>, AllocError>
+    requires some { 0 < count }
+    ensures { IfOk result (λ others. (found : Found)
+        → Some (found_span found) ∷ others.items ≡ spans_of count (found_at found cache.now)) }
+{
+    let mut others = Vec::with_capacity(alloc, count - 1)?;
+    for number in 1..count {
+        others.push(cache.group(number))?;
+    }
+    Ok(others)
 }

@@ -32,6 +32,7 @@ ghost use Rattle.fancy_search.specs.Options.{meaning_in, dialect_of, is_easy_und
 ghost use Rattle.fancy_search.specs.Refusals.{error_of};
 ghost use Rattle.fancy_search.specs.ProgramSize.{IsRefusedUnder, RefusesPattern, passes};
 ghost use Rattle.fancy_search.specs.Cached.{IsAttemptIn};
+ghost use Rattle.fancy_search.specs.OneItem.{AreOneItems, answer_to};
 
 use crate::asked::Asked;
 use crate::cache::{AttemptCache, AttemptNotes, Cache, Engine, Kept, RememberedSteps};
@@ -76,6 +77,8 @@ pub struct Program {
     code: Code,
     names: Names,
     easy: bool,
+    /// Whether each way of the code reads one item, after which a match is found, as far as this is told.
+    one_item: bool,
     /// Whether the automaton follows the code.
     plain: bool,
     /// Whether searches are worth its steps, in texts that are not short.
@@ -95,6 +98,7 @@ pub struct Program {
     ghost short: { code_len code ≤ 4 * nodes reading.0 + 2 },
     ghost decided: { easy ≡ is_easy_under options reading.0 },
     ghost followed: { plain ≡ true → FollowsEach code },
+    ghost single: { one_item ≡ true → ∥ AreOneItems (instrs_of code) code.start ∥₁ },
     ghost light: { is_easy reading.0 ≡ true → are_easy (instrs_of code) ≡ true },
     pub ghost limited: { ForSome options.step_limit (λ most. most < 2 ^ 64) },
     ghost starts: { has_keep_start_in_look_around reading.0 ≡ false },
@@ -114,6 +118,7 @@ impl Drop for Program {
             code: _,
             names: _,
             easy: _,
+            one_item: _,
             plain: _,
             worth_following: _,
             shortest: _,
@@ -185,8 +190,7 @@ impl Program {
     ghost use Rattle.fancy_search.specs.SearchCounts.{RefusesEasy, IsOutOfSteps, AllowsAllSteps, tried_by, is_hopeless, IfFound, IsHardProgram, RefusesQuery, RefusesAttempt, AllowsAttempt, HasRoomFor, step_bound};
     ghost use Rattle.fancy_search.specs.Programs.{program_pattern, program_options, program_stack_limit, program_groups, program_names, program_length, program_is_easy, asked_of, query_in};
     ghost use Rattle.fancy_search.specs.Served.{IsPosition, StandsIn, KeepsCounts, CountsReturns, HeedsStackLimit, Serves, ServesAlone, ServesEasily};
-    ghost use Rattle.fancy_search.specs.OneItem.{EndsByOne, answer_to};
-    ghost use Rattle.fancy_search.specs.Starts.{may_start, NeverHolds};
+    ghost use Rattle.fancy_search.specs.Starts.{may_start, NeverHolds, EndsByOne};
     ghost use Rattle.fancy_search.specs.KeptTables.{KeepsTable, KeepsSteps, IsKeptIn, IsKeptFor, KeepsNotes, LeavesNotes, table_kept, ahead_with, most_with, notes_to_go, TakesStepsToGo, SpendsSteps, KeepsOn, notes_ahead, is_steps, keeps_no_table};
     ghost use Rattle.fancy_input.specs.LastLines.{KnowsLastLines};
     ghost use Rattle.fancy_machine.specs.Asked.{HeedsLimit, groups_held, lines_held};
@@ -215,6 +219,7 @@ impl Program {
         if options.forbids(easy, code.len()) {
             return Err(Error::CompileError(CompileError::PatternTooComplex));
         }
+        let one_item = is_one_item(&code);
         let plain = is_plain(&code);
         let worth_following = is_worth_following(&code);
         let shortest = shortest_followed(&code);
@@ -230,6 +235,7 @@ impl Program {
             code,
             names,
             easy,
+            one_item,
             plain,
             worth_following,
             shortest,
@@ -307,7 +313,7 @@ impl Program {
         if !self.easy {
             return false;
         }
-        is_one_item(&self.code)
+        self.one_item
     }
 
     /// The first match that is asked for in the bytes of a haystack. Its groups stand in `cache` then.
@@ -920,7 +926,7 @@ impl Program {
         ensures answer { IfSome result
             (λ m. IsAttemptIn m cache.new (query_in self.now asked.now) position) }
     {
-        if !self.easy {
+        if !self.is_one_item() {
             return None;
         }
         let past = past_one_item(&self.code, asked.haystack, position)?;

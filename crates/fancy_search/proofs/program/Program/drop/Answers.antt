@@ -8,6 +8,7 @@ invariant_of-self c = record {
   meant = c.args.self.meant;
   short = c.args.self.short;
   decided = c.args.self.decided;
+  single = c.args.self.single;
   followed = c.args.self.followed;
   light = c.args.self.light;
   limited = c.args.self.limited;

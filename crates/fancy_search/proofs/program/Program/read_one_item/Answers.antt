@@ -6,4 +6,4 @@ pub returns-clause-answer : goal.returns-clause-answer
 returns-clause-answer c = c.match_to.ensures ∙ sym (one_item_at c.args.self.now c.args.asked.now c.args.position c.in_ok-past.past c.requires.ends c.in_ok-past.ensures)
 
 pub match_to-requires : goal.match_to-requires
-match_to-requires c = record { easy = sym c.args.self.now.decided ∙ c.if-not-self.false }
+match_to-requires c = record { easy = (c.is_one_item.ensures c.if-not-is_one_item.false).easy }

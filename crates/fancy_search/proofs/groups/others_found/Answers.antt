@@ -4,7 +4,7 @@ use Rattle.fancy_meaning.specs.Context.{group_span}
 use Rattle.fancy_meaning.specs.Search.{Answer, span_of}
 use Rattle.fancy_search.specs.Groups.{span_of_group}
 use Rattle.fancy_search.specs.Cached.{found_at}
-use Rattle.fancy_search.proofs.groups.groups_found.Goals as goal
+use Rattle.fancy_search.proofs.groups.others_found.Goals as goal
 
 group_past_zero : (f : Answer) (number : ℕ) → 1 ≤ number → group_span f.state number ≡ span_of_group f number
 group_past_zero f number h = at (number == 0) refl where
@@ -13,9 +13,9 @@ group_past_zero f number h = at (number == 0) refl where
   at false e = refl
 
 pub loop-number-preserved : goal.loop-number-preserved
-loop-number-preserved c =
-    let f = found_at c.args.found c.args.cache.now in
+loop-number-preserved c = λ found.
+    let f = found_at found c.args.cache.now in
     let number = c.loop-number.number in
     ap (λ xs. Some (span_of f) ∷ xs) c.in_ok-push.ensures.items
-    ∙ ap₂ (λ xs x. xs ++ x ∷ []) c.loop-number.invariant (c.group.ensures ∙ group_past_zero f number (omega arith))
+    ∙ ap₂ (λ xs x. xs ++ x ∷ []) (c.loop-number.invariant found) (c.group.ensures ∙ group_past_zero f number (omega arith))
     ∙ sym (map-range_with_len_more (span_of_group f) 0 number number (omega arith))
