@@ -1,8 +1,7 @@
 -- Where a match of a regex may start, and where it may end.
 use Rattle.std.specs.Prelude.{ℕ, Bool, Option}
 use Rattle.fancy_search.specs.Options.{meaning_in}
-use Rattle.fancy_search.specs.OneItem.{EndsByOne}
-use Rattle.fancy_search.specs.Starts.{may_start, NeverHolds}
+use Rattle.fancy_search.specs.Starts.{may_start, NeverHolds, EndsByOne}
 use Rattle.fancy_core.specs.declared.regex.Regex.{Regex}
 use Rattle.fancy_core.specs.Regexes.{options_in, pattern_in, program_in}
 

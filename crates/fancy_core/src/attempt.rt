@@ -1,43 +1,39 @@
 //! Attempts at one position, on which the searches of pattern sets rest.
 
-ghost use Rattle.std.specs.Prelude.{◌≡◌, ◌≤◌, ◌+◌, true, IfOk, IfErr, IfSome, IfNone, length};
+ghost use Rattle.std.specs.Prelude.{◌≡◌, ◌≤◌, ◌+◌, true, false, IfOk, IfErr, IfSome, IfNone};
 ghost use Rattle.fancy_bytes.specs.Lacks.{AreKnown};
 ghost use Rattle.fancy_input.specs.Work.{steps_of, returns_of, units_of, work_of, IsWithin, IsSpent};
-ghost use Rattle.fancy_input.specs.Inputs.{haystack_in, request_in};
 ghost use Rattle.fancy_input.specs.Requests.{effective_start};
-ghost use Rattle.fancy_core.specs.Captures.{spans_if, spans_in, searched_in, found_by};
+ghost use Rattle.fancy_core.specs.Captures.{spans_in, searched_in, found_by};
 ghost use Rattle.fancy_core.specs.Limited.{RefusesAt, AllowsAt};
-ghost use Rattle.fancy_core.specs.Regexes.{options_in, program_in, easy_in, group_count_in, step_limit_in, query};
-ghost use Rattle.fancy_core.specs.Searches.{CanSearchInput, asked_by, groups_of_attempt};
+ghost use Rattle.fancy_core.specs.Regexes.{program_in, easy_in, group_count_in, step_limit_in};
 ghost use Rattle.fancy_search.specs.Cached.{IsAttemptIn, found_at};
 ghost use Rattle.fancy_search.specs.Programs.{query_in};
 ghost use Rattle.fancy_search.specs.Groups.{AreCut, spans_of};
 ghost use Rattle.fancy_search.specs.KeptTables.{KeepsNotes, kept_from, notes_ahead, notes_to_go};
 ghost use Rattle.fancy_search.specs.SearchCounts.{IsOutOfSteps};
-ghost use Rattle.fancy_search.specs.Searching.{Suits};
 ghost use Rattle.fancy_tree.specs.declared.error.Error.TheVariants.{Memory};
 
 use crate::captures::Captures;
 use crate::regex::Regex;
 use fancy_code::found::Found;
-use fancy_input::input::{Input, Request};
-use fancy_input::regex_input::RegexInput;
+use fancy_input::input::Input;
 use fancy_input::work::Work;
 use fancy_search::asked::Asked;
 use fancy_search::cache::{AttemptCache, AttemptNotes, Cache};
 use fancy_search::groups::groups_found;
 use fancy_tree::error::Result;
 
-/// The groups of the match that an attempt at one position finds, or none; the position is a byte offset, from the
-/// effective start of the input to the end of its range. No other position is tried, whether the input is anchored or not,
-/// and `\G` holds at the effective start. A regex that seeks finds nothing at a position that its searches pass over.
+/// The match that an attempt at one position finds, or none, without its groups: those are in `cache` then, and [`captures_found`] takes
+/// them from there. The position is a byte offset, from the effective start of what is asked to the end of its range. No other position
+/// is tried, whether the request is anchored or not, and `\G` may hold at the effective start. A regex that seeks finds nothing at a
+/// position that its searches pass over.
 ///
 /// ```text
-/// let regex = Regex::new(alloc, "(\\Ga|b)c")?;
-/// let input = RegexInput::new("acbc");
-/// attempt_at(&regex, input.again(), 0, &mut notes, &mut cache)   // 0..2, group 1 0..1
-/// attempt_at(&regex, input.again(), 1, &mut notes, &mut cache)   // None
-/// attempt_at(&regex, input.again(), 2, &mut notes, &mut cache)   // 2..4, group 1 2..3
+/// let regex = Regex::new(alloc, "(\\Ga|b)c")?;    // asked of "acbc"
+/// find_at(&regex, &asked, 0, &mut notes, &mut cache)?   // 0..2, and group 1 is 0..1 in the cache
+/// find_at(&regex, &asked, 1, &mut notes, &mut cache)?   // None
+/// find_at(&regex, &asked, 2, &mut notes, &mut cache)?   // 2..4, and group 1 is 2..3 in the cache
 /// ```
 ///
 /// `cache` is that of one haystack, and `notes` are those of the regex in it. What attempts before found out is not followed again:
@@ -46,136 +42,28 @@ use fancy_tree::error::Result;
 ///
 /// It is refused as [`Regex::find_input`] is, for the returns and the branches that the attempt takes. `RegexOptionsBuilder::step_limit`
 /// bounds what `cache` has counted, with this attempt.
-pub fn attempt_at<'r, S: Input>(
-    regex: &'r Regex,
-    input: RegexInput<S>,
-    position: usize,
-    notes: &mut AttemptNotes,
-    cache: &mut AttemptCache,
-) -> Result<Option<Captures<'r, S>>>
-    requires searched { CanSearchInput S.text S.bytes (options_in regex.now) input }
-    requires starts { effective_start (request_in input) ≤ position }
-    requires ends { position ≤ (request_in input).range_end }
-    requires known { AreKnown cache.old.known (S.bytes (haystack_in input)) }
-    requires notes { KeepsNotes (program_in regex.now) (S.bytes (haystack_in input))
-        (request_in input) position notes.old }
-    ensures notes { IfOk result (λ m. IfNone m
-        (KeepsNotes (program_in regex.now) (S.bytes (haystack_in input)) (request_in input) position
-        notes.new)) }
-    ensures known { AreKnown cache.new.known (S.bytes (haystack_in input)) }
-    ensures bounded { easy_in regex.now ≡ true → steps_of cache.new.work ≤ steps_of cache.old.work
-        + notes_to_go (program_in regex.now) (request_in input) position notes.old }
-    ensures spent { easy_in regex.now ≡ true → IfOk result (λ m. IfNone m
-        (steps_of cache.new.work
-        + notes_ahead (program_in regex.now) (request_in input) (position + 1) notes.new
-        ≤ steps_of cache.old.work
-        + notes_to_go (program_in regex.now) (request_in input) position notes.old)) }
-    ensures paired { returns_of cache.old.work ≤ steps_of cache.old.work
-        → returns_of cache.new.work ≤ steps_of cache.new.work }
-    ensures limit { IsWithin (step_limit_in regex.now) cache.old.work
-        → IsWithin (step_limit_in regex.now) cache.new.work }
-    ensures limited { IsOutOfSteps result → IsSpent (step_limit_in regex.now) cache.new.work }
-    ensures units { easy_in regex.now ≡ true → units_of cache.new.work ≡ units_of cache.old.work }
-    ensures grows { work_of cache.old.work ≤ work_of cache.new.work }
-    ensures found { IfOk result (λ m.
-        spans_if m ≡ groups_of_attempt (asked_by regex.now S.bytes input) position) }
-    ensures within { IfOk result (λ m. IfSome m (λ c. searched_in c ≡ haystack_in input)) }
-    ensures regex { IfOk result (λ m. IfSome m (λ c. found_by c ≡ regex.now)) }
-    ensures refused { IfErr result (λ e.
-        RefusesAt regex.now (asked_by regex.now S.bytes input) position e) }
-    ensures allowed { IfOk result (λ _.
-        AllowsAt regex.now (asked_by regex.now S.bytes input) position) }
-{
-    let found = capture_at(
-        regex,
-        input.haystack(),
-        input.request(),
-        position,
-        notes,
-        cache,
-    )?;
-    Ok(found)
-}
-
-/// The groups of the match that an attempt at one position of the haystack finds, or none.
-fn capture_at<'r, S: Input>(
-    regex: &'r Regex,
-    haystack: S,
-    request: Request,
-    position: usize,
-    notes: &mut AttemptNotes,
-    cache: &mut AttemptCache,
-) -> Result<Option<Captures<'r, S>>>
-    requires inside { request.range_end ≤ length (S.bytes haystack) }
-    requires suits { Suits (options_in regex.now) (S.text haystack) (S.bytes haystack) }
-    requires starts { effective_start request ≤ position }
-    requires ends { position ≤ request.range_end }
-    requires known { AreKnown cache.old.known (S.bytes haystack) }
-    requires notes { KeepsNotes (program_in regex.now) (S.bytes haystack) request position
-        notes.old }
-    ensures notes { IfOk result (λ m. IfNone m
-        (KeepsNotes (program_in regex.now) (S.bytes haystack) request position notes.new)) }
-    ensures known { AreKnown cache.new.known (S.bytes haystack) }
-    ensures bounded { easy_in regex.now ≡ true → steps_of cache.new.work ≤ steps_of cache.old.work
-        + notes_to_go (program_in regex.now) request position notes.old }
-    ensures spent { easy_in regex.now ≡ true → IfOk result (λ m. IfNone m
-        (steps_of cache.new.work
-        + notes_ahead (program_in regex.now) request (position + 1) notes.new
-        ≤ steps_of cache.old.work
-        + notes_to_go (program_in regex.now) request position notes.old)) }
-    ensures paired { returns_of cache.old.work ≤ steps_of cache.old.work
-        → returns_of cache.new.work ≤ steps_of cache.new.work }
-    ensures limit { IsWithin (step_limit_in regex.now) cache.old.work
-        → IsWithin (step_limit_in regex.now) cache.new.work }
-    ensures limited { IsOutOfSteps result → IsSpent (step_limit_in regex.now) cache.new.work }
-    ensures units { easy_in regex.now ≡ true → units_of cache.new.work ≡ units_of cache.old.work }
-    ensures grows { work_of cache.old.work ≤ work_of cache.new.work }
-    ensures found { IfOk result (λ m.
-        spans_if m ≡ groups_of_attempt (query regex.now (S.bytes haystack) request) position) }
-    ensures within { IfOk result (λ m. IfSome m (λ c. searched_in c ≡ haystack)) }
-    ensures regex { IfOk result (λ m. IfSome m (λ c. found_by c ≡ regex.now)) }
-    ensures refused { IfErr result (λ e.
-        RefusesAt regex.now (query regex.now (S.bytes haystack) request) position e) }
-    ensures allowed { IfOk result (λ _.
-        AllowsAt regex.now (query regex.now (S.bytes haystack) request) position) }
-{
-    let bytes = haystack.as_bytes();
-    let Some(found) = find_at(regex, bytes, request, position, notes, cache)? else {
-        return Ok(None);
-    };
-    let captures = captures_found(regex, haystack, found, &cache.engines)?;
-    Ok(Some(captures))
-}
-
-/// The match that an attempt at one position finds in the bytes of a haystack, or none, without its groups: those are in
-/// `cache` then, and [`captures_found`] takes them from there. The position is a byte offset, and what is done is counted, as in
-/// [`attempt_at`].
-///
-/// It is refused as [`attempt_at`] is.
 pub fn find_at(
     regex: &Regex,
-    haystack: &[u8],
-    request: Request,
+    asked: &Asked<'_>,
     position: usize,
     notes: &mut AttemptNotes,
     cache: &mut AttemptCache,
 ) -> Result<Option<Found>>
-    requires inside { request.range_end ≤ length haystack.now }
-    requires starts { effective_start request ≤ position }
-    requires ends { position ≤ request.range_end }
-    requires known { AreKnown cache.old.known haystack.now }
-    requires notes { KeepsNotes (program_in regex.now) haystack.now request position notes.old }
-    ensures notes { IfOk result
-        (λ m. KeepsNotes (program_in regex.now) haystack.now request (kept_from m position)
-        notes.new) }
-    ensures known { AreKnown cache.new.known haystack.now }
+    requires starts { effective_start asked.now.request ≤ position }
+    requires ends { position ≤ asked.now.request.range_end }
+    requires known { AreKnown cache.old.known asked.now.haystack.now }
+    requires notes { KeepsNotes (program_in regex.now)
+        asked.now.haystack.now asked.now.request position notes.old }
+    ensures notes { IfOk result (λ m. KeepsNotes (program_in regex.now)
+        asked.now.haystack.now asked.now.request (kept_from m position) notes.new) }
+    ensures known { AreKnown cache.new.known asked.now.haystack.now }
     ensures bounded { easy_in regex.now ≡ true → steps_of cache.new.work ≤ steps_of cache.old.work
-        + notes_to_go (program_in regex.now) request position notes.old }
+        + notes_to_go (program_in regex.now) asked.now.request position notes.old }
     ensures spent { easy_in regex.now ≡ true → IfOk result (λ m. IfNone m
         (steps_of cache.new.work
-        + notes_ahead (program_in regex.now) request (position + 1) notes.new
+        + notes_ahead (program_in regex.now) asked.now.request (position + 1) notes.new
         ≤ steps_of cache.old.work
-        + notes_to_go (program_in regex.now) request position notes.old)) }
+        + notes_to_go (program_in regex.now) asked.now.request position notes.old)) }
     ensures paired { returns_of cache.old.work ≤ steps_of cache.old.work
         → returns_of cache.new.work ≤ steps_of cache.new.work }
     ensures limit { IsWithin (step_limit_in regex.now) cache.old.work
@@ -184,30 +72,24 @@ pub fn find_at(
     ensures units { easy_in regex.now ≡ true → units_of cache.new.work ≡ units_of cache.old.work }
     ensures grows { work_of cache.old.work ≤ work_of cache.new.work }
     ensures found { IfOk result (λ m.
-        IsAttemptIn m cache.new.engines (query regex.now haystack.now request) position) }
+        IsAttemptIn m cache.new.engines (query_in (program_in regex.now) asked.now) position) }
     ensures refused { IfErr result (λ e.
-        RefusesAt regex.now (query regex.now haystack.now request) position e) }
+        RefusesAt regex.now (query_in (program_in regex.now) asked.now) position e) }
     ensures allowed { IfOk result (λ _.
-        AllowsAt regex.now (query regex.now haystack.now request) position) }
+        AllowsAt regex.now (query_in (program_in regex.now) asked.now) position) }
 {
-    let asked = Asked {
-        haystack,
-        text: false,
-        request,
-        continues: true,
-    };
-    let mut work = Work::after(&cache.work);
+    let mut counts = Work::after(&cache.work);
     let found = regex
         .program
-        .attempt_at(&asked, position, notes, cache, &mut work);
-    cache.work.add_attempt(&work);
+        .attempt_at(asked, position, notes, cache, &mut counts);
+    cache.work.add_attempt(&counts);
     found
 }
 
 /// The match that an attempt at one position finds, as [`find_at`], for lists of attempts each of which starts where a match of some
 /// regex ended, as those of tokens do. All of them together take time in proportion to the haystack.
 ///
-/// It is refused as [`attempt_at`] is.
+/// It is refused as [`find_at`] is.
 pub fn find_in_list(
     regex: &Regex,
     asked: &Asked<'_>,
@@ -240,6 +122,41 @@ pub fn find_in_list(
     let found = regex
         .program
         .attempt_in_list(asked, position, notes, cache, &mut counts);
+    cache.work.add_attempt(&counts);
+    found
+}
+
+/// The match that an attempt at one position finds, as [`find_in_list`], for a regex that is not easy. It goes on with no notes.
+///
+/// It is refused as [`find_at`] is.
+pub fn find_hard(
+    regex: &Regex,
+    asked: &Asked<'_>,
+    position: usize,
+    cache: &mut AttemptCache,
+) -> Result<Option<Found>>
+    requires hard { easy_in regex.now ≡ false }
+    requires starts { effective_start asked.now.request ≤ position }
+    requires ends { position ≤ asked.now.request.range_end }
+    requires known { AreKnown cache.old.known asked.now.haystack.now }
+    ensures known { AreKnown cache.new.known asked.now.haystack.now }
+    ensures paired { returns_of cache.old.work ≤ steps_of cache.old.work
+        → returns_of cache.new.work ≤ steps_of cache.new.work }
+    ensures limit { IsWithin (step_limit_in regex.now) cache.old.work
+        → IsWithin (step_limit_in regex.now) cache.new.work }
+    ensures limited { IsOutOfSteps result → IsSpent (step_limit_in regex.now) cache.new.work }
+    ensures grows { work_of cache.old.work ≤ work_of cache.new.work }
+    ensures found { IfOk result (λ m.
+        IsAttemptIn m cache.new.engines (query_in (program_in regex.now) asked.now) position) }
+    ensures refused { IfErr result (λ e.
+        RefusesAt regex.now (query_in (program_in regex.now) asked.now) position e) }
+    ensures allowed { IfOk result (λ _.
+        AllowsAt regex.now (query_in (program_in regex.now) asked.now) position) }
+{
+    let mut counts = Work::after(&cache.work);
+    let found = regex
+        .program
+        .attempt_hard(asked, position, cache, &mut counts);
     cache.work.add_attempt(&counts);
     found
 }

@@ -1,6 +1,8 @@
 //! Where a match of a regex may start, by bytes further on, and where it may end.
 
 ghost use Rattle.std.specs.Prelude.{◌≡◌, false, true};
+ghost use Rattle.fancy_tree.specs.Modes.{keeps_characters};
+ghost use Rattle.fancy_core.specs.Regexes.{options_in};
 ghost use Rattle.fancy_core.specs.RegexStarts.{EndsByOneItem, NoneHolds};
 
 use crate::regex::Regex;
@@ -32,4 +34,16 @@ pub fn is_one_item(regex: &Regex) -> bool
     ensures { result ≡ true → EndsByOneItem regex.now }
 {
     regex.program.is_one_item()
+}
+
+/// Whether matches begin and end on character boundaries alone. So it is unless the regex was built with `BytesMode::Ascii` or
+/// `BytesMode::UnicodeBytes`.
+///
+/// ```text
+/// keeps_characters(&Regex::new(alloc, "é")?)    // true
+/// ```
+pub fn keeps_characters(regex: &Regex) -> bool
+    ensures { result ≡ keeps_characters (options_in regex.now).bytes_mode }
+{
+    regex.program.options().bytes_mode.keeps_characters()
 }

@@ -1,6 +1,6 @@
 -- Groups of members as the bits of a number, and the members in them.
 use Rattle.std.proofs.Common.{◌≡◌, ℕ, zero, suc, ◌+◌, ◌-◌, ◌*◌, ◌^◌, ◌/◌, ◌%◌, ◌<◌, ◌≤◌, ◌==◌, ◌&&◌, ◌||◌, ◌⊎◌, max, min, Bool, true, false, List, Option, None, Some, IfSome, MatchOption, length, slice_get, slice_index_or, slice_set, bit_and, bit_or, inl, inr, refl, sym, ap, subst, ◌∙◌, arith, eq-eqb, ne_eqb, true≢false, le_refl, get_or-set_same, get_or-set_other}
-use Rattle.std.specs.Int.{bit_at, w128, trailing_zeros}
+use Rattle.std.specs.Int.{bit_at, w64, w128, trailing_zeros}
 use Rattle.std.proofs.Math.Bool.{or-true, or-false}
 use Rattle.std.proofs.lemmas.Bool.{cases_eq}
 use Rattle.std.proofs.lemmas.Bool.Decides.{leb_tells, nat_tests}
@@ -49,9 +49,9 @@ pub both_there : (a b g : ℕ) → has_group (record { bits = bit_and a b }) g �
 unfolding has_group
 both_there a b g = ap (λ x. x == 1) (bit_at_and a b g) ∙ min_one (bit_at a g) (bit_at b g) (bit_at-lt a g) (bit_at-lt b g)
 
-pub past_the_last : (groups : Groups) (from : ℕ) → groups.bits < 2 ^ 128 → 128 ≤ from → NoGroupFrom groups from
+pub past_the_last : (groups : Groups) (count from : ℕ) → groups.bits < 2 ^ count → count ≤ from → NoGroupFrom groups from
 unfolding has_group
-past_the_last groups from small past g le = is_clear (bit_at groups.bits g) (bit_at_above groups.bits 128 g small (omega (arith, past, le)))
+past_the_last groups count from small past g le = is_clear (bit_at groups.bits g) (bit_at_above groups.bits count g small (omega (arith, past, le)))
 
 pub none_after : (groups : Groups) (from : ℕ) → groups.bits / 2 ^ from ≡ 0 → NoGroupFrom groups from
 unfolding has_group
@@ -61,20 +61,18 @@ none_after groups from e g le =
 not_clear : (n : ℕ) → n ≡ 1 → (n == 1) ≡ false → {P : Type 0} → P
 not_clear n is clear = absurd (true≢false (sym (is_set n is) ∙ clear))
 
-pub first_there : (groups : Groups) (from : ℕ) → groups.bits < 2 ^ 128 → 0 < groups.bits / 2 ^ from → groups.bits / 2 ^ from < 2 ^ 128
-    → IsNextGroup groups from (from + trailing_zeros w128 (groups.bits / 2 ^ from))
+-- the lowest bit of the number shifted is the first group
+lowest_there : (groups : Groups) (from place : ℕ) → groups.bits < 2 ^ 128 → bit_at (groups.bits / 2 ^ from) place ≡ 1 → ((i : ℕ) → i < place → bit_at (groups.bits / 2 ^ from) i ≡ 0)
+    → IsNextGroup groups from (from + place)
 unfolding has_group
-first_there groups from small some fits =
-    let rest = groups.bits / 2 ^ from in
-    let place = trailing_zeros w128 rest in
-    let lowest = bit_at-trailing_zeros w128 rest some fits in
+lowest_there groups from place small set clear =
     let back : from + place - from ≡ place = omega arith in
-    let stands : bit_at groups.bits (from + place) ≡ 1 = shifted groups.bits from (from + place) (omega arith) ∙ ap (bit_at rest) back ∙ lowest.1 in
+    let stands : bit_at groups.bits (from + place) ≡ 1 = shifted groups.bits from (from + place) (omega arith) ∙ ap (bit_at (groups.bits / 2 ^ from)) back ∙ set in
     record {
       reached = omega arith;
       inside = within (from + place) stands;
       there = is_set _ stands;
-      none = λ h le below. is_clear _ (shifted groups.bits from h le ∙ lowest.2 (h - from) (omega (arith, le, below)));
+      none = λ h le below. is_clear _ (shifted groups.bits from h le ∙ clear (h - from) (omega (arith, le, below)));
     }
   where
     within : (g : ℕ) → bit_at groups.bits g ≡ 1 → g < 128
@@ -83,6 +81,18 @@ first_there groups from small some fits =
           | inl past ↦ (let clear : bit_at groups.bits g ≡ 0 = bit_at_above groups.bits 128 g small past.1 in absurd (omega (arith, clear, stands)))
           | inr inside ↦ inside.1
         ]
+
+pub first_there : (groups : Groups) (from : ℕ) → groups.bits < 2 ^ 128 → 0 < groups.bits / 2 ^ from → groups.bits / 2 ^ from < 2 ^ 128
+    → IsNextGroup groups from (from + trailing_zeros w128 (groups.bits / 2 ^ from))
+first_there groups from small some fits =
+    let lowest = bit_at-trailing_zeros w128 (groups.bits / 2 ^ from) some fits in
+    lowest_there groups from (trailing_zeros w128 (groups.bits / 2 ^ from)) small lowest.1 lowest.2
+
+-- the same, where the number has 64 bits
+pub first_low : (groups : Groups) (from : ℕ) → groups.bits < 2 ^ 64 → 0 < groups.bits / 2 ^ from → groups.bits / 2 ^ from < 2 ^ 64 → IsNextGroup groups from (from + trailing_zeros w64 (groups.bits / 2 ^ from))
+first_low groups from small some fits =
+    let lowest = bit_at-trailing_zeros w64 (groups.bits / 2 ^ from) some fits in
+    lowest_there groups from (trailing_zeros w64 (groups.bits / 2 ^ from)) (omega (arith, small)) lowest.1 lowest.2
 
 zero_of : (n : ℕ) → (n == 0) ≡ true → n ≡ 0
 zero_of n e = grind (arith, nat_tests)

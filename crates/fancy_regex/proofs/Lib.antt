@@ -3,6 +3,7 @@ pub mod EscapedLiteralLemmas
 pub mod ListExampleLemmas
 pub mod EndLemmas
 pub mod SetListLemmas
+pub mod StrictestLemmas
 pub mod SetLemmas
 pub mod SetOfOneLemmas
 pub mod SetSearchLemmas

@@ -8,6 +8,7 @@ use Rattle.std.proofs.lemmas.Option.{slice_get_within, slice_get_cases, get_or_f
 use Rattle.fancy_input.specs.declared.input.Request.{Request}
 use Rattle.fancy_input.specs.Requests.{effective_start}
 use Rattle.fancy_code.specs.declared.code.Code.{Code}
+use Rattle.fancy_code.specs.declared.found.Found.{Found}
 use Rattle.fancy_runner.specs.declared.notes.KeptTable.{KeptTable}
 use Rattle.fancy_code.specs.Code.{worth_of}
 use Rattle.fancy_meaning.specs.Context.{option_to}
@@ -20,7 +21,7 @@ use Rattle.fancy_search.specs.declared.cache.AttemptNotes.{AttemptNotes}
 use Rattle.fancy_search.specs.declared.program.Program.{Program}
 use Rattle.fancy_search.specs.declared.cache.Kept.{Kept}
 use Rattle.fancy_search.specs.declared.cache.Kept.TheVariants.{Nothing}
-use Rattle.fancy_search.specs.KeptTables.{KeepsNotes, notes_again, table_kept}
+use Rattle.fancy_search.specs.KeptTables.{KeepsNotes, kept_from, notes_again, table_kept}
 use Rattle.fancy_search.specs.Options.{search_options}
 use Rattle.fancy_core.specs.declared.regex.Regex.{Regex}
 use Rattle.fancy_core.specs.Limited.{most_steps_of}
@@ -35,6 +36,11 @@ use Rattle.fancy_regex.proofs.TrialLemmas.{either_one}
 pub none_both : {A : Type 0} (P Q R : Type 0) → (P → Q → R) → (m : Option A) → IfNone m P → IfNone m Q → IfNone m R
 none_both P Q R so None p q = so p q
 none_both P Q R so (Some a) p q = tt
+
+-- what is so from where the notes serve on is so from the position on, where nothing was found
+pub none_kept : (P : ℕ → Type 0) (p : ℕ) (m : Option Found) → P (kept_from m p) → IfNone m (P p)
+none_kept P p None is = is
+none_kept P p (Some f) is = tt
 
 -- each member of a set of easy ones is easy
 pub easy_at : (members : List Regex) (k : ℕ) (r : Regex) → AreAllEasy members → slice_get members k ≡ Some r → easy_in r ≡ true

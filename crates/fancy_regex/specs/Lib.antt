@@ -4,6 +4,7 @@ pub mod EscapedLiterals
 pub mod ListExamples
 pub mod Laws
 pub mod SetMembers
+pub mod Strictest
 pub mod Candidates
 pub mod Trials
 pub mod SetCounts

@@ -5,6 +5,7 @@ ghost use Rattle.fancy_search.specs.Options.{by_default};
 ghost use Rattle.fancy_core.specs.Built.{IsReading};
 ghost use Rattle.fancy_regex.specs.Builders.{options_of};
 ghost use Rattle.fancy_regex.specs.Candidates.{AreCandidatesOf, TellStarters};
+ghost use Rattle.fancy_regex.specs.Strictest.{IsStrictest};
 
 mod borrowed_text;
 mod candidates;
@@ -17,6 +18,7 @@ pub(crate) mod trials;
 use crate::options::RegexOptionsBuilder;
 use crate::set::candidates::Candidates;
 use fancy_core::regex::Regex;
+use fancy_core::starts::keeps_characters;
 use fancy_input::input::Input;
 use fancy_input::regex_input::RegexInput;
 use fancy_tree::error::Result;
@@ -33,8 +35,11 @@ use std::alloc::Global;
 pub struct RegexSet {
     pub(crate) members: Vec<Regex>,
     pub(crate) candidates: Candidates,
+    /// The index of a member that searches no input which another one cannot search.
+    strictest: usize,
     ghost listed: { AreCandidatesOf members.items candidates },
     ghost told: { TellStarters members.items candidates },
+    ghost strict: { IsStrictest members.items strictest },
 }
 
 /// By hand, so that crates above do not prove it once more.
@@ -43,6 +48,7 @@ impl Drop for RegexSet {
         let RegexSet {
             members: _,
             candidates: _,
+            strictest: _,
         } = self;
     }
 }
@@ -107,9 +113,11 @@ impl RegexSet {
         ensures { members_of result ≡ members.items }
     {
         let candidates = Candidates::new(&members);
+        let strictest = strictest(&members);
         RegexSet {
             members,
             candidates,
+            strictest,
         }
     }
 
@@ -136,13 +144,24 @@ impl RegexSet {
     pub fn can_search<S: Input>(&self, input: &RegexInput<S>) -> bool
         ensures { IsTrue result ↔ CanSearchAll S.text S.bytes self.now input.now }
     {
-        for member in &self.members {
-            if !member.can_search(input) {
-                return false;
-            }
+        if self.members.is_empty() {
+            return true;
         }
-        true
+        self.members[self.strictest].can_search(input)
     }
+}
+
+/// The index of the first member whose matches may stand anywhere, and of the first member where there is none. What that one can
+/// search, each can.
+fn strictest(members: &[Regex]) -> usize
+    ensures { IsStrictest members.now result }
+{
+    for (index, member) in members.iter().enumerate() {
+        if !keeps_characters(member) {
+            return index;
+        }
+    }
+    0
 }
 
 /// Reads a pattern of a set.

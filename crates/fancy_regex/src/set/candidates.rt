@@ -9,7 +9,7 @@
 //! The tables take no memory beside their own, whatever the set's size: they have one bit for each of 128 groups of neighbours. Up to
 //! 128 members each have a group of their own.
 
-ghost use Rattle.std.specs.Prelude.{◌≡◌, ◌≤◌, ◌<◌, ◌+◌, ◌*◌, ◌/◌, ◌==◌, ◌&&◌, ◌||◌, ◌↔◌, ℕ, List, IfSome, IsTrue, MatchOption, false, true, length, slice_get, slice_index, take};
+ghost use Rattle.std.specs.Prelude.{◌≡◌, ◌≤◌, ◌<◌, ◌+◌, ◌*◌, ◌^◌, ◌/◌, ◌==◌, ◌&&◌, ◌||◌, ◌↔◌, ℕ, List, IfSome, IsTrue, MatchOption, false, true, length, slice_get, slice_index, take};
 ghost use Rattle.fancy_core.specs.declared.regex.Regex.{Regex};
 
 use fancy_core::regex::Regex;
@@ -114,11 +114,30 @@ impl Groups {
         self.bits == 0
     }
 
+    /// The first group from a number on, where none past the first 64 is there. It is the same with fewer instructions.
+    #[inline(always)]
+    fn first_low(self, from: usize) -> Option<usize>
+        requires low { self.bits < 2 ^ 64 }
+        ensures { MatchOption result (NoGroupFrom self from) (IsNextGroup self from) }
+    {
+        if from >= 64 {
+            return None;
+        }
+        let rest = self.bits as u64 >> from;
+        if rest == 0 {
+            return None;
+        }
+        Some(from + rest.trailing_zeros() as usize)
+    }
+
     /// The first group from a number on.
     #[inline(always)]
     pub(crate) fn first_from(self, from: usize) -> Option<usize>
         ensures { MatchOption result (NoGroupFrom self from) (IsNextGroup self from) }
     {
+        if self.bits >> 64 == 0 {
+            return self.first_low(from);
+        }
         if from >= 128 {
             return None;
         }

@@ -19,10 +19,12 @@ ghost use Rattle.fancy_search.specs.Programs.{query_in};
 ghost use Rattle.fancy_search.specs.SearchCounts.{IsOutOfSteps};
 
 use fancy_code::found::Found;
-use fancy_core::attempt::{attempt_at, find_in_list, find_one_item, find_told};
+use fancy_core::attempt::{
+    captures_found, find_at, find_hard, find_in_list, find_one_item, find_told,
+};
 use fancy_core::captures::Captures;
 use fancy_core::regex::Regex;
-use fancy_input::input::Input;
+use fancy_input::input::{Haystack, Input};
 use fancy_input::regex_input::RegexInput;
 use fancy_search::asked::Asked;
 use fancy_search::cache::{AttemptCache, AttemptNotes, Cache};
@@ -83,7 +85,7 @@ impl Trials {
         }
     }
 
-    /// The attempt of the member with this index at a position, as [`attempt_at`].
+    /// The groups of the match that the attempt of the member with this index finds at a position, or none, as [`find_at`] finds it.
     pub(crate) fn attempt<'r, S: Input>(
         &mut self,
         index: usize,
@@ -127,10 +129,67 @@ impl Trials {
         ensures allowed { IfOk result (λ _.
             AllowsAt member.now (asked_by member.now S.bytes input) position) }
     {
-        let mut notes = self.take_notes(index)?;
-        let found = attempt_at(member, input, position, &mut notes, &mut self.cache);
-        self.notes[index] = Some(notes);
-        found
+        let haystack = input.haystack();
+        let asked = Asked {
+            haystack: haystack.as_bytes(),
+            text: false,
+            request: input.request(),
+            continues: true,
+        };
+        let Some(found) = self.find_at(index, member, &asked, position)? else {
+            return Ok(None);
+        };
+        let captures = captures_found(member, haystack, found, &self.cache.engines)?;
+        Ok(Some(captures))
+    }
+
+    /// The match that the attempt of the member with this index finds at a position, as [`find_at`]. A hard member takes no notes.
+    fn find_at(
+        &mut self,
+        index: usize,
+        member: &Regex,
+        asked: &Asked<'_>,
+        position: usize,
+    ) -> Result<Option<Found>>
+        requires starts { effective_start asked.now.request ≤ position }
+        requires ends { position ≤ asked.now.request.range_end }
+        requires known { AreKnown self.old.cache.known asked.now.haystack.now }
+        requires notes { NotedAt index member.now
+            asked.now.haystack.now asked.now.request position self.old }
+        ensures known { AreKnown self.new.cache.known asked.now.haystack.now }
+        ensures notes { IfOk result (λ m. NotedAt index member.now
+            asked.now.haystack.now asked.now.request (kept_from m position) self.new) }
+        ensures others { OthersStayBut index self.old self.new }
+        ensures bounded { easy_in member.now ≡ true → steps_in self.new
+            ≤ steps_in self.old
+            + steps_left member.now asked.now.request position (notes_at self.old index) }
+        ensures spent { easy_in member.now ≡ true → IfOk result (λ m. IfNone m
+            (steps_in self.new
+            + steps_left member.now asked.now.request (position + 1) (notes_at self.new index)
+            ≤ steps_in self.old
+            + steps_left member.now asked.now.request position (notes_at self.old index))) }
+        ensures paired { IsPaired self.old → IsPaired self.new }
+        ensures limit { IsWithin (step_limit_in member.now) self.old.cache.work
+            → IsWithin (step_limit_in member.now) self.new.cache.work }
+        ensures limited { IsOutOfSteps result
+            → IsSpent (step_limit_in member.now) self.new.cache.work }
+        ensures grows { KeepsWork self.old self.new }
+        ensures units { easy_in member.now ≡ true
+            → units_of self.new.cache.work ≡ units_of self.old.cache.work }
+        ensures found { IfOk result (λ m. IsAttemptIn m self.new.cache.engines
+            (query_in (program_in member.now) asked.now) position) }
+        ensures refused { IfErr result (λ e.
+            RefusesAt member.now (query_in (program_in member.now) asked.now) position e) }
+        ensures allowed { IfOk result (λ _.
+            AllowsAt member.now (query_in (program_in member.now) asked.now) position) }
+    {
+        if member.is_easy() {
+            let mut notes = self.take_notes(index)?;
+            let found = find_at(member, asked, position, &mut notes, &mut self.cache);
+            self.notes[index] = Some(notes);
+            return found;
+        }
+        find_hard(member, asked, position, &mut self.cache)
     }
 
     /// The match that the attempt of the member with this index finds at a position, as [`find_in_list`]. One item is read.
@@ -162,6 +221,9 @@ impl Trials {
         ensures allowed { IfOk result (λ _.
             AllowsAt member.now (query_in (program_in member.now) asked.now) position) }
     {
+        if !member.is_easy() {
+            return find_hard(member, asked, position, &mut self.cache);
+        }
         let one = find_one_item(member, asked, position, &mut self.cache.engines);
         if let Some(found) = one {
             return Ok(found);

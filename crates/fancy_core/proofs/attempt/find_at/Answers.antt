@@ -7,21 +7,21 @@ use Rattle.fancy_core.proofs.attempt.find_at.Goals as goal
 pub returns-clause-limit : goal.returns-clause-limit
 returns-clause-limit c within =
     let same = c.attempt_at-found.ensures.counted in
-    added_within (step_limit_in c.args.regex.now) c.args.regex.now.program.limited c.args.cache.now.work c.after-work.result c.attempt_at-found.new.work c.add_attempt.new.self
-    (record { begun_steps = c.after-work.ensures.steps; begun_units = c.after-work.ensures.units; steps = rw same at c.add_attempt.ensures.steps; units = rw same at c.add_attempt.ensures.units })
+    added_within (step_limit_in c.args.regex.now) c.args.regex.now.program.limited c.args.cache.now.work c.after-counts.result c.attempt_at-found.new.work c.add_attempt.new.self
+    (record { begun_steps = c.after-counts.ensures.steps; begun_units = c.after-counts.ensures.units; steps = rw same at c.add_attempt.ensures.steps; units = rw same at c.add_attempt.ensures.units })
     c.attempt_at-found.ensures.units c.attempt_at-found.ensures.counts.within within
 
 pub returns-clause-limited : goal.returns-clause-limited
 returns-clause-limited c out =
     let same = c.attempt_at-found.ensures.counted in
-    added_spent (step_limit_in c.args.regex.now) c.args.regex.now.program.limited c.args.cache.now.work c.after-work.result c.attempt_at-found.new.work c.add_attempt.new.self
-    (record { begun_steps = c.after-work.ensures.steps; begun_units = c.after-work.ensures.units; steps = rw same at c.add_attempt.ensures.steps; units = rw same at c.add_attempt.ensures.units })
+    added_spent (step_limit_in c.args.regex.now) c.args.regex.now.program.limited c.args.cache.now.work c.after-counts.result c.attempt_at-found.new.work c.add_attempt.new.self
+    (record { begun_steps = c.after-counts.ensures.steps; begun_units = c.after-counts.ensures.units; steps = rw same at c.add_attempt.ensures.steps; units = rw same at c.add_attempt.ensures.units })
     (c.attempt_at-found.ensures.counts.limited out)
 
 pub returns-clause-units : goal.returns-clause-units
 returns-clause-units c easy =
     let same = c.attempt_at-found.ensures.counted in
-    c.add_attempt.ensures.uncounted (rw same (c.attempt_at-found.ensures.easy easy ∙ c.after-work.ensures.units)) ∙ ap units_of same
+    c.add_attempt.ensures.uncounted (rw same (c.attempt_at-found.ensures.easy easy ∙ c.after-counts.ensures.units)) ∙ ap units_of same
 
 pub returns-clause-grows : goal.returns-clause-grows
 returns-clause-grows c = rw c.attempt_at-found.ensures.counted at c.add_attempt.ensures.grows

@@ -55,3 +55,9 @@ returns-in-Some-told-clause-notes c notes at =
 
 pub returns-in-Some-told-clause-allowed : goal.returns-in-Some-told-clause-allowed
 returns-in-Some-told-clause-allowed c hard = absurd (true≢false (sym c.in-Some-told.ensures.easy ∙ hard))
+
+pub returns-then-not-is_easy-clause-notes : goal.returns-then-not-is_easy-clause-notes
+returns-then-not-is_easy-clause-notes c =
+    if_ok _ _ (λ m found notes at. noted_past (program_in c.args.member.now) c.args.asked.now c.args.position notes m
+    (attempt_stands (program_in c.args.member.now) c.args.asked.now (cached_groups c.find_hard.new.cache.engines) c.args.position c.requires.ends m found)
+    (c.requires.notes notes at)) c.find_hard.result c.find_hard.ensures.found
