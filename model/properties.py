@@ -20,6 +20,8 @@ _SIMPLE = {0x1E9E: 0xDF, 0x1DF95: 0xDF, 0x1FBC: 0x1FB3, 0x1FCC: 0x1FC3, 0x1FFC: 
 for _base in (0x1F88, 0x1F98, 0x1FA8):
     for _k in range(8):
         _SIMPLE[_base + _k] = _base + _k - 8
+# The category of the one that was assigned after Unicode 14, for which Python has it unassigned.
+_LATER = {0x1DF95: 'Ll'}
 
 
 @lru_cache(maxsize=None)
@@ -68,7 +70,7 @@ def categories():
     for lo, hi in charset.SCALARS:
         prev, begin = None, lo
         for c in range(lo, hi + 1):
-            cat = unicodedata.category(chr(c))
+            cat = _LATER.get(c) or unicodedata.category(chr(c))
             if cat != prev:
                 if prev is not None:
                     runs.setdefault(prev, []).append((begin, c - 1))
