@@ -8,9 +8,9 @@ use Rattle.fancy_code.specs.Run.{Raw, Note, Stop, fetched, Go, before, run}
 use Rattle.fancy_code.specs.Thread.{size_of}
 use Rattle.fancy_code.specs.declared.step.Next.TheVariants.{On}
 use Rattle.fancy_code.proofs.RunMore.{run_more}
-use Rattle.fancy_prices.specs.declared.atoms.ToldAtom.{ToldAtom}
-use Rattle.fancy_prices.specs.declared.splits.ToldSplit.{ToldSplit}
-use Rattle.fancy_prices.specs.Splits.{IsToldAtom, StopsAt}
+use Rattle.fancy_splits.specs.declared.atoms.ToldAtom.{ToldAtom}
+use Rattle.fancy_splits.specs.declared.splits.ToldSplit.{ToldSplit}
+use Rattle.fancy_splits.specs.Splits.{IsToldAtom, StopsAt}
 use Rattle.fancy_machine.specs.declared.atoms.Whole.{Whole}
 use Rattle.fancy_machine.specs.declared.attempt.Attempt.{Attempt}
 use Rattle.fancy_machine.specs.Attempt.{attempt_context, accepts, code_in, Seeks, Advanced, size_ahead}

@@ -11,11 +11,11 @@ use Rattle.fancy_code.specs.Instructions.{Instruction}
 use Rattle.fancy_code.specs.Instructions as i
 use Rattle.fancy_code.specs.Run.{Raw, run}
 use Rattle.fancy_code.specs.declared.step.Next.TheVariants.{On, Dead}
-use Rattle.fancy_prices.specs.declared.choices.Onward.{Onward}
-use Rattle.fancy_prices.specs.declared.choices.Onward.TheVariants.{Ends, Goes, Reads}
-use Rattle.fancy_prices.specs.declared.choices.Passage.{Passage}
-use Rattle.fancy_prices.specs.declared.choices.ToldChoice.{ToldChoice}
-use Rattle.fancy_prices.specs.Splits.{IsToldChoice, Leads, LeadsOut, LeadsTo, Passes, ReadsByte, ways_of}
+use Rattle.fancy_splits.specs.declared.choices.Onward.{Onward}
+use Rattle.fancy_splits.specs.declared.choices.Onward.TheVariants.{Ends, Goes, Reads}
+use Rattle.fancy_splits.specs.declared.choices.Passage.{Passage}
+use Rattle.fancy_splits.specs.declared.choices.ToldChoice.{ToldChoice}
+use Rattle.fancy_splits.specs.Splits.{IsToldChoice, Leads, LeadsOut, LeadsTo, Passes, ReadsByte, ways_of}
 use Rattle.fancy_machine.specs.declared.attempt.Attempt.{Attempt}
 use Rattle.fancy_machine.specs.Attempt.{attempt_context, accepts, code_in, Seeks, SeeksBack, Advanced, size_ahead}
 use Rattle.fancy_machine.specs.Choices.{IsTaken, saved_ways}

@@ -9,8 +9,8 @@ use Rattle.fancy_meaning.specs.Context.{Context, State}
 use Rattle.fancy_code.specs.Instructions.{Instruction}
 use Rattle.fancy_code.specs.Run.{Raw, Note, Stop, returned, fetched, Go, before, guard, join, run}
 use Rattle.fancy_code.proofs.RunMore.{run_more}
-use Rattle.fancy_prices.specs.declared.splits.ToldSplit.{ToldSplit}
-use Rattle.fancy_prices.specs.Splits.{IsToldSplit, StopsAt}
+use Rattle.fancy_splits.specs.declared.splits.ToldSplit.{ToldSplit}
+use Rattle.fancy_splits.specs.Splits.{IsToldSplit, StopsAt}
 use Rattle.fancy_machine.specs.Frames.{Spot, Region, Frame, Saved, Within}
 use Rattle.fancy_machine.specs.Machine.{after, finish, left, found_of, missed_of, wanted_by, at_instr, at_place, opened_at, closed_at, HasInnermost, IsEndedByAny}
 use Rattle.fancy_machine.specs.Runs.{HasItems, IsStuck, Stands, past_one, past_items}

@@ -14,11 +14,11 @@ use Rattle.fancy_code.specs.Run.{Note, choice_opened, before, join, act, instr_a
 use Rattle.fancy_meaning.specs.Search.{Query, answer_at, answer_from, context_of, initial, is_match_boundary, returns_at}
 use Rattle.fancy_meaning.specs.Tried.{may_begin, tried}
 use Rattle.fancy_meaning.proofs.AttemptLemmas.{found_later}
-use Rattle.fancy_prices.specs.declared.front.Front.{Front}
-use Rattle.fancy_prices.specs.declared.splits.ToldSplit.{ToldSplit}
-use Rattle.fancy_prices.specs.Front.{IsFront}
+use Rattle.fancy_splits.specs.declared.front.Front.{Front}
+use Rattle.fancy_splits.specs.declared.splits.ToldSplit.{ToldSplit}
+use Rattle.fancy_splits.specs.Front.{IsFront}
 use Rattle.fancy_prices.specs.Prices.{Costs, IsPriceAt}
-use Rattle.fancy_prices.specs.Splits.{AreApart, IsToldSplit, IsNoted}
+use Rattle.fancy_splits.specs.Splits.{AreApart, IsToldSplit, IsNoted}
 use Rattle.fancy_prices.proofs.BeginLemmas.{get_index}
 use Rattle.fancy_prices.proofs.DyingWays.{costs_same, joined, opened, read}
 use Rattle.fancy_prices.proofs.PriceLemmas.{costs_counted}

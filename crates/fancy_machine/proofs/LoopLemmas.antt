@@ -6,8 +6,8 @@ use Rattle.fancy_code.specs.Code.{instrs_of}
 use Rattle.fancy_code.specs.Instructions.{Instruction}
 use Rattle.fancy_code.specs.Run.{Raw}
 use Rattle.fancy_code.specs.declared.step.Next.TheVariants.{On, Dead}
-use Rattle.fancy_prices.specs.declared.splits.ToldSplit.{ToldSplit}
-use Rattle.fancy_prices.specs.Splits.{IsToldSplit}
+use Rattle.fancy_splits.specs.declared.splits.ToldSplit.{ToldSplit}
+use Rattle.fancy_splits.specs.Splits.{IsToldSplit}
 use Rattle.fancy_machine.specs.declared.attempt.Attempt.{Attempt}
 use Rattle.fancy_machine.specs.declared.runs.Run.{Run}
 use Rattle.fancy_machine.specs.Attempt.{attempt_context, accepts, code_in, Seeks, SeeksBack, Advanced, size_ahead}

@@ -11,7 +11,7 @@ use Rattle.fancy_meaning.specs.declared.options.SearchOptions.{SearchOptions}
 use Rattle.fancy_code.specs.Compile.{IsCodeOf}
 use Rattle.fancy_code.specs.Queries.{query_of, answer_with}
 use Rattle.fancy_meaning.specs.Search.{Query, Answer, context_of}
-use Rattle.fancy_prices.specs.Told.{ArePrices}
+use Rattle.fancy_splits.specs.Told.{ArePrices}
 use Rattle.fancy_machine.specs.declared.asked.Asked.{Asked}
 use Rattle.fancy_machine.specs.declared.attempt.Attempt.{Attempt}
 use Rattle.fancy_machine.specs.declared.search.Cache.{Cache}

@@ -1,8 +1,8 @@
 -- What is read of an atomic group round a loop of one item.
 use Rattle.std.specs.Prelude.{◌≡◌, ℕ, ◌+◌, ◌-◌, ◌^◌, ◌<◌, ◌≤◌, ◌⊎◌, true, false, List, Some, None}
-use Rattle.fancy_prices.specs.declared.atoms.ToldAtom.{ToldAtom}
-use Rattle.fancy_prices.specs.declared.splits.ToldSplit.{ToldSplit}
-use Rattle.fancy_prices.specs.Splits.{IsNoted}
+use Rattle.fancy_splits.specs.declared.atoms.ToldAtom.{ToldAtom}
+use Rattle.fancy_splits.specs.declared.splits.ToldSplit.{ToldSplit}
+use Rattle.fancy_splits.specs.Splits.{IsNoted}
 use Rattle.fancy_machine.specs.declared.atoms.Whole.{Whole}
 use Rattle.fancy_machine.specs.declared.attempt.Attempt.{Attempt}
 use Rattle.fancy_machine.specs.Frames.{Spot}

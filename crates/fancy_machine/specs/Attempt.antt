@@ -9,7 +9,7 @@ use Rattle.fancy_meaning.specs.Events.{Event}
 use Rattle.fancy_meaning.specs.Search.{is_match_boundary}
 use Rattle.fancy_code.specs.Run.{Raw, Go, run, instr_at}
 use Rattle.fancy_prices.specs.Prices.{Dies}
-use Rattle.fancy_prices.specs.Splits.{byte_alone}
+use Rattle.fancy_splits.specs.Splits.{byte_alone}
 use Rattle.fancy_machine.specs.Frames.{Spot, Held, Frame, Saved, Within}
 use Rattle.fancy_code.specs.Thread.{events_of, size_of}
 use Rattle.fancy_code.specs.declared.step.Next.TheVariants.{On, Dead, Found}

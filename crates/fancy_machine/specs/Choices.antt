@@ -1,8 +1,8 @@
 -- Where an attempt goes on from a choice.
 use Rattle.std.specs.Prelude.{◌≡◌, ℕ, ◌<◌, List, [], ◌∷◌, Some, slice_get}
-use Rattle.fancy_prices.specs.declared.choices.Passage.{Passage}
-use Rattle.fancy_prices.specs.declared.choices.ToldChoice.{ToldChoice}
-use Rattle.fancy_prices.specs.Splits.{IsPassage}
+use Rattle.fancy_splits.specs.declared.choices.Passage.{Passage}
+use Rattle.fancy_splits.specs.declared.choices.ToldChoice.{ToldChoice}
+use Rattle.fancy_splits.specs.Splits.{IsPassage}
 use Rattle.fancy_machine.specs.declared.attempt.Attempt.{Attempt}
 use Rattle.fancy_machine.specs.Frames.{Spot, Frame, Saved}
 use Rattle.fancy_machine.specs.Machine.{at_instr}

@@ -4,10 +4,10 @@ use Rattle.fancy_meaning.specs.Events.{marks_in, returns_in}
 use Rattle.fancy_meaning.specs.Search.{Query, answer_from, gone_from}
 use Rattle.fancy_meaning.specs.Tried.{tried}
 use Rattle.fancy_prices.specs.declared.entries.Priced.{Priced}
-use Rattle.fancy_prices.specs.declared.front.Front.{Front}
-use Rattle.fancy_prices.specs.declared.splits.ToldSplit.{ToldSplit}
+use Rattle.fancy_splits.specs.declared.front.Front.{Front}
+use Rattle.fancy_splits.specs.declared.splits.ToldSplit.{ToldSplit}
 use Rattle.fancy_prices.specs.Entries.{EntryTest, TakeInAll}
-use Rattle.fancy_prices.specs.Splits.{IsNoted}
+use Rattle.fancy_splits.specs.Splits.{IsNoted}
 use Rattle.fancy_machine.specs.declared.attempt.Attempt.{Attempt}
 use Rattle.fancy_machine.specs.Runs.{HasItems, Lacks}
 

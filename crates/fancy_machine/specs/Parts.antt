@@ -7,8 +7,8 @@ use Rattle.fancy_input.specs.Work.{steps_of, returns_of, units_of, stepped_withi
 use Rattle.fancy_code.specs.declared.code.Instr.{Instr}
 use Rattle.fancy_code.specs.declared.step.Next.{Next}
 use Rattle.fancy_meaning.specs.Context.{State}
-use Rattle.fancy_prices.specs.declared.splits.ToldSplit.{ToldSplit}
-use Rattle.fancy_prices.specs.Splits.{IsNoted}
+use Rattle.fancy_splits.specs.declared.splits.ToldSplit.{ToldSplit}
+use Rattle.fancy_splits.specs.Splits.{IsNoted}
 use Rattle.fancy_machine.specs.declared.attempt.Attempt.{Attempt}
 use Rattle.fancy_machine.specs.declared.runs.LastRun.{LastRun}
 use Rattle.fancy_machine.specs.declared.seen.Seen.{Seen}

@@ -1,9 +1,9 @@
 -- Where the items of a loop stand, and where what follows it dies.
 use Rattle.std.specs.Prelude.{◌≡◌, ℕ, zero, suc, ◌+◌, ◌-◌, ◌^◌, ◌<◌, ◌≤◌, ◌⊎◌, true, false, List, Option, Some, None, slice_get}
 use Rattle.fancy_bytes.specs.Sets.{ByteFlags, member}
-use Rattle.fancy_prices.specs.declared.splits.ToldSplit.{ToldSplit}
-use Rattle.fancy_prices.specs.declared.splits.Splits.{Splits}
-use Rattle.fancy_prices.specs.Splits.{IsNoted, IsPast}
+use Rattle.fancy_splits.specs.declared.splits.ToldSplit.{ToldSplit}
+use Rattle.fancy_splits.specs.declared.splits.Splits.{Splits}
+use Rattle.fancy_splits.specs.Splits.{IsNoted, IsPast}
 use Rattle.fancy_machine.specs.declared.runs.Run.{Run}
 use Rattle.fancy_machine.specs.Frames.{Spot, Frame, Held}
 use Rattle.fancy_machine.specs.Machine.{at_place, opened_at, closed_at, IsEndedByAny}

@@ -3,7 +3,7 @@
 use fancy_code::code::Code;
 use fancy_input::input::Request;
 use fancy_meaning::options::SearchOptions;
-use fancy_prices::prices::Prices;
+use fancy_splits::prices::Prices;
 
 /// What a search is asked, of whatever haystack.
 #[derive(Clone, Copy)]

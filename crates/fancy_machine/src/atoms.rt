@@ -4,7 +4,7 @@ ghost use Rattle.std.specs.Prelude.{◌≡◌, ◌≤◌, ℕ, List, Option, IfO
 ghost use Rattle.fancy_code.specs.Code.{instrs_of};
 ghost use Rattle.fancy_meaning.specs.Context.{State};
 ghost use Rattle.fancy_input.specs.Work.{returns_of};
-ghost use Rattle.fancy_prices.specs.Splits.{IsToldAtom};
+ghost use Rattle.fancy_splits.specs.Splits.{IsToldAtom};
 ghost use Rattle.fancy_machine.specs.Atoms.{ComesTo, ReadsAll};
 ghost use Rattle.fancy_machine.specs.Runs.{KnowsRun};
 ghost use Rattle.fancy_machine.specs.Parts.{GoesOver, CountsGoing, WentOn};
@@ -16,7 +16,7 @@ use crate::trail::Trail;
 use fancy_code::step::Next;
 use fancy_input::refusal::SearchRefusal;
 use fancy_input::work::Work;
-use fancy_prices::atoms::ToldAtom;
+use fancy_splits::atoms::ToldAtom;
 
 /// Where the loop of an atomic group begins, a byte offset: past the item before it, if it has one. `None` where no byte tells that
 /// this item stands.

@@ -7,9 +7,9 @@ ghost use Rattle.fancy_code.specs.Queries.{query_of};
 ghost use Rattle.fancy_meaning.specs.Search.{continues_from};
 ghost use Rattle.fancy_input.specs.Work.{returns_of, AddsReturns};
 ghost use Rattle.fancy_code.specs.Thread.{IsKnown};
-ghost use Rattle.fancy_prices.specs.Splits.{AreSplits, IsPart};
+ghost use Rattle.fancy_splits.specs.Splits.{AreSplits, IsPart};
 ghost use Rattle.fancy_meaning.specs.Context.{State};
-ghost use Rattle.fancy_prices.specs.Once.{splits_once};
+ghost use Rattle.fancy_splits.specs.Once.{splits_once};
 
 use crate::atoms::pass_atom;
 use crate::best::Best;
@@ -26,7 +26,7 @@ use fancy_input::refusal::SearchRefusal;
 use fancy_input::work::Work;
 use fancy_meaning::options::{SearchOptions, is_match_boundary};
 use fancy_meaning::reading::SuppressedEnds;
-use fancy_prices::splits::{Splits, ToldPart};
+use fancy_splits::splits::{Splits, ToldPart};
 
 /// The attempts of one search: the code that they follow, the haystack, and what they accept there.
 #[derive(Drop)]

@@ -4,7 +4,7 @@ ghost use Rattle.std.specs.Prelude.{◌≤◌, ◌<◌, ◌+◌, ◌^◌, IfSome
 ghost use Rattle.fancy_code.specs.Code.{instrs_of};
 ghost use Rattle.fancy_meaning.specs.Context.{State};
 ghost use Rattle.fancy_input.specs.Work.{returns_of};
-ghost use Rattle.fancy_prices.specs.Splits.{IsToldChoice, ways_in};
+ghost use Rattle.fancy_splits.specs.Splits.{IsToldChoice, ways_in};
 ghost use Rattle.fancy_machine.specs.Choices.{IsTaken, saved_ways};
 ghost use Rattle.fancy_machine.specs.declared.attempt.Attempt.{Attempt as AttemptIs};
 ghost use Rattle.fancy_machine.specs.Machine.{within_at};
@@ -18,7 +18,7 @@ use fancy_code::code::Instr;
 use fancy_code::step::Next;
 use fancy_input::refusal::SearchRefusal;
 use fancy_input::work::Work;
-use fancy_prices::choices::{Onward, Passage, SavedWays, ToldChoice};
+use fancy_splits::choices::{Onward, Passage, SavedWays, ToldChoice};
 
 /// Saves the second of two ways, and goes on by the first.
 pub(crate) fn split(trail: &mut Trail, first: usize, second: usize) -> Result<Next, SearchRefusal>

@@ -6,7 +6,7 @@ ghost use Rattle.fancy_machine.specs.Runs.{KnowsRun};
 
 use crate::attempt::Attempt;
 use crate::runs::{LastRun, may_begin, may_leave};
-use fancy_prices::front::Front;
+use fancy_splits::front::Front;
 
 /// How many positions are passed over together at most.
 const MOST: usize = 1 << 30;

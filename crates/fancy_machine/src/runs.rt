@@ -4,9 +4,9 @@
 ghost use Rattle.std.specs.Prelude.{◌≡◌, ◌+◌, ◌-◌, ◌^◌, ◌<◌, ◌≤◌, ◌⊎◌, ℕ, List, if◌then◌else◌, true, false, length, IfOk, IfSome, Option};
 ghost use Rattle.fancy_meaning.specs.Context.{State};
 ghost use Rattle.fancy_input.specs.Work.{returns_of};
-ghost use Rattle.fancy_prices.specs.declared.splits.ToldSplit.{ToldSplit};
-ghost use Rattle.fancy_prices.specs.declared.splits.Splits.{Splits};
-ghost use Rattle.fancy_prices.specs.Splits.{AreApart, IsNoted};
+ghost use Rattle.fancy_splits.specs.declared.splits.ToldSplit.{ToldSplit};
+ghost use Rattle.fancy_splits.specs.declared.splits.Splits.{Splits};
+ghost use Rattle.fancy_splits.specs.Splits.{AreApart, IsNoted};
 ghost use Rattle.fancy_machine.specs.Attempt.{DiesAt};
 ghost use Rattle.fancy_machine.specs.Layers.{earlier};
 ghost use Rattle.fancy_machine.specs.Runs.{HasItems, IsStuck, Lacks, DieFrom, KnowsRun, IsPartOf, IsRun};
@@ -19,7 +19,7 @@ use crate::trail::Trail;
 use fancy_code::step::Next;
 use fancy_input::refusal::SearchRefusal;
 use fancy_input::work::Work;
-use fancy_prices::splits::ToldSplit;
+use fancy_splits::splits::ToldSplit;
 
 /// How many items of a loop stand one after another from a place on, each of them one byte, up to an end.
 fn run_len(split: &ToldSplit, haystack: &[u8], place: usize, end: usize) -> usize

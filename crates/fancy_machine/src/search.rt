@@ -9,7 +9,7 @@ ghost use Rattle.fancy_prefilter.specs.Seen.{IsNextCandidate};
 ghost use Rattle.fancy_meaning.specs.Tried.{tried, NoneTried};
 ghost use Rattle.fancy_input.specs.Work.{steps_of, returns_of, HasRoom};
 ghost use Rattle.fancy_prices.specs.Entries.{AreEntries, IsNextEntry, IsToldAt, is_entry};
-ghost use Rattle.fancy_prices.specs.Front.{IsFront};
+ghost use Rattle.fancy_splits.specs.Front.{IsFront};
 ghost use Rattle.fancy_machine.specs.Asked.{Serves, Asks, IsAsked, Answers, branches_allowed, groups_held, lines_held, seen_held};
 ghost use Rattle.fancy_machine.specs.Attempt.{KnowsSeen};
 ghost use Rattle.fancy_machine.specs.Front.{ArePriced, GoesPast, returns_ahead};
@@ -33,7 +33,7 @@ use fancy_meaning::options::is_match_boundary;
 use fancy_meaning::reading::ready_last_lines;
 use fancy_prefilter::candidates::next_candidate;
 use fancy_prices::entries::{Entries, Priced};
-use fancy_prices::front::Front;
+use fancy_splits::front::Front;
 use fancy_prices::price::Price;
 use std::alloc::Global;
 

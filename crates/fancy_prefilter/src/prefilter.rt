@@ -78,6 +78,12 @@ fn text_opening(alloc: Global, tree: &Tree, meaning: Meaning) -> Result<Opening,
     }
 }
 
+/// Whether a byte stands every few bytes in texts that have it at all, so that a scan for it alone stops too often: line feeds, blanks,
+/// small letters but for j, q and z, and what begins a character of Greek or of a script after it.
+fn stands_often(byte: u8) -> bool {
+    matches!(byte, b'\n' | b' ' | b'a'..=b'i' | b'k'..=b'p' | b'r'..=b'y' | 0xCE..=0xED)
+}
+
 impl Prefilter {
     /// What a pattern tells of where its matches begin. It is refused where memory runs out.
     pub fn new(alloc: Global, tree: &Tree, meaning: Meaning) -> Result<Prefilter, AllocError>
@@ -111,21 +117,18 @@ impl Prefilter {
     }
 
     /// Whether a search would scan for a window: not where each match opens with one text, or may start with any byte, or starts with
-    /// one that most texts seldom have. A line feed, a blank, a small letter and what begins a character past ASCII are often there.
+    /// one that texts seldom have.
     pub fn is_worth_window(&self) -> bool {
+        if self.has_text() {
+            return false;
+        }
         let Some(scan) = &self.starts else {
             return false;
         };
-        if self.has_text() || !scan.has_one() {
-            return !self.has_text();
+        match scan.only() {
+            None => true,
+            Some(byte) => stands_often(byte),
         }
-        for code in 0..256u32 {
-            let byte = code as u8;
-            if scan.contains(byte) {
-                return matches!(byte, b'\n' | b' ' | b'a'..=b'z' | 0xC0..=0xFF);
-            }
-        }
-        false
     }
 
     /// Whether each match opens with a text that is told.

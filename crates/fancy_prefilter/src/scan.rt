@@ -75,6 +75,11 @@ impl Scan {
         self.only.is_some()
     }
 
+    /// The byte of a set that has one alone, for which a scan is asked or not.
+    pub fn only(&self) -> Option<u8> {
+        self.only
+    }
+
     /// Whether the byte is in the set.
     pub fn contains(&self, byte: u8) -> bool
         ensures { result ≡ member self.now byte }

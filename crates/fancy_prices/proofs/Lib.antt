@@ -8,9 +8,5 @@ mod AroundLemmas
 pub mod FlagLemmas
 pub mod FactLemmas
 pub mod BehindLemmas
-pub mod SplitLemmas
 pub mod PriceForms
 pub mod FoundBehind
-pub mod LoopLemmas
-pub mod FrontLemmas
-pub mod PassageLemmas

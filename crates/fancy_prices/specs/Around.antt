@@ -10,9 +10,8 @@ use Rattle.fancy_prices.specs.declared.facts.Ending.TheVariants.{Second}
 use Rattle.fancy_prices.specs.declared.price.Price.{Price}
 use Rattle.fancy_prices.specs.declared.rows.Row.{Row}
 use Rattle.fancy_prices.specs.declared.rows.Rows.{Rows}
-use Rattle.fancy_prices.specs.Front.{AreWhole}
 use Rattle.fancy_prices.specs.Prices.{DiesBehind}
-use Rattle.fancy_prices.specs.Rows.{costs_nothing}
+use Rattle.fancy_prices.specs.Rows.{AreWhole, costs_nothing}
 
 -- the number of the row that serves after what stands before: the first serves where nothing does
 abbrev pub number_before : List ℕ → Option ℕ → ℕ

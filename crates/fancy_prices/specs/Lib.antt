@@ -2,9 +2,5 @@ pub mod Facts
 pub mod Prices
 pub mod Around
 pub mod Entries
-pub mod Splits
-pub mod Front
 pub mod Kinds
 pub mod Rows
-pub mod Told
-pub mod Once

@@ -1,6 +1,7 @@
 -- What is told of attempts, by the byte at which they are made and what stands before.
 use Rattle.std.specs.Prelude.{◌≡◌, ℕ, ◌<◌, ◌==◌, ◌&&◌, Bool, true, false, not, List, Option, Some, None, IfSome, slice_index_or}
 use Rattle.fancy_input.specs.Places.{is_continuation}
+use Rattle.fancy_bytes.specs.Sets.{ByteFlags, member}
 use Rattle.fancy_code.specs.declared.code.Code.{Code}
 use Rattle.fancy_code.specs.Code.{instrs_of}
 use Rattle.fancy_prices.specs.declared.facts.Before.{Before}
@@ -30,3 +31,7 @@ costs_nothing (Some c) = (c.marks == 0) && (c.returns == 0)
 -- it is said of each byte at which the price is not nothing that an attempt costs something, or may find a match
 abbrev pub IsCostlyIn : List (Option Price) → List Bool → Type 0
 IsCostlyIn prices costly = (b : ℕ) → b < 256 → slice_index_or costly b false ≡ not (costs_nothing (slice_index_or prices b None))
+
+-- no byte of the set continues a character of UTF-8
+abbrev pub AreWhole : ByteFlags → Type 0
+AreWhole set = (b : ℕ) → b < 256 → member set b ≡ true → is_continuation b ≡ false

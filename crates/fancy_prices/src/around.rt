@@ -4,10 +4,9 @@ ghost use Rattle.std.specs.Prelude.{IfOk};
 ghost use Rattle.std.specs.Option.{ForSome};
 ghost use Rattle.fancy_prices.specs.Around.{AreSecond, IsAround};
 
-use crate::front::are_whole;
 use crate::kinds::word_bytes;
 use crate::price::Price;
-use crate::rows::{Rows, is_free};
+use crate::rows::{Rows, are_whole, is_free};
 use fancy_bytes::byte_set::ByteSet;
 use fancy_prefilter::prefilter::{Opening, Prefilter};
 use fancy_prefilter::window::Window;

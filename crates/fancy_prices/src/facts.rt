@@ -10,7 +10,7 @@ use fancy_tree::tree::{Assertion, Meaning};
 
 /// What stands before a position.
 #[derive(Clone, Copy)]
-pub(crate) enum Before<'a> {
+pub enum Before<'a> {
     /// Nothing: it is the text's start.
     Nothing,
     /// One of the bytes of a kind.
@@ -28,11 +28,11 @@ pub(crate) enum Ending<'a> {
 
 /// What is told of a position.
 #[derive(Clone, Copy)]
-pub(crate) struct Facts<'a> {
+pub struct Facts<'a> {
     /// The byte that stands there.
-    pub(crate) here: u8,
+    pub here: u8,
     /// What stands before it. `None` where that is not told.
-    pub(crate) before: Option<Before<'a>>,
+    pub before: Option<Before<'a>>,
 }
 
 /// Whether a character may end with a byte.

@@ -318,7 +318,7 @@ fn price_of_look(
 /// What the code from an instruction on costs where the facts hold and it dies. `None` where it is not told that it does: the code is
 /// not followed so deep, or it costs too much.
 #[cycle(price)]
-pub(crate) fn price_of(code: &Code, at: usize, facts: Facts<'_>, deep: usize) -> Option<Price>
+pub fn price_of(code: &Code, at: usize, facts: Facts<'_>, deep: usize) -> Option<Price>
     ensures { IfSome result (λ p. Dies (instrs_of code.now) code.now.meaning facts.entry p.marks p.returns at) }
 {
     if at >= code.len() {
@@ -377,7 +377,7 @@ fn begins_otherwise(code: &Code, at: usize, facts: Facts<'_>) -> bool
 
 /// Whether the code from an instruction on dies where the facts hold, opens no choice and takes none back. It is not told where the
 /// code is not followed so deep.
-pub(crate) fn is_free(code: &Code, at: usize, facts: Facts<'_>, deep: usize) -> bool
+pub fn is_free(code: &Code, at: usize, facts: Facts<'_>, deep: usize) -> bool
     ensures { result ≡ true → Dies (instrs_of code.now) code.now.meaning facts.entry 0 0 at }
 {
     match price_of(code, at, facts, deep) {

@@ -1,13 +1,12 @@
 //! The bytes that are told apart where they stand before a position, by what a code tests there.
 
-ghost use Rattle.std.specs.Prelude.{◌≡◌, ℕ, ◌<◌, true, false};
+ghost use Rattle.std.specs.Prelude.{◌≡◌, ℕ, ◌<◌, ◌==◌, true, false};
 ghost use Rattle.std.specs.Option.{ForSome};
 ghost use Rattle.unicode.specs.Perl.{is_word_byte};
-ghost use Rattle.fancy_bytes.specs.Sets.{member};
+ghost use Rattle.fancy_bytes.specs.Sets.{IsSetOf, member};
 ghost use Rattle.fancy_prices.specs.Kinds.{AreWords};
 
 use crate::free::is_match;
-use crate::splits::only;
 use fancy_bytes::byte_set::ByteSet;
 use fancy_code::code::{Code, Instr};
 use fancy_prefilter::items::is_ascii;
@@ -23,7 +22,7 @@ const DEPTH: usize = 16;
 
 /// Bytes that are not told apart where they stand before a position.
 #[derive(Drop)]
-pub(crate) struct Kind {
+pub struct Kind {
     pub(crate) bytes: ByteSet,
     /// Whether they are word characters of ASCII, where that is so of each or of none. Of bytes past ASCII it is not told.
     pub(crate) word: Option<bool>,
@@ -91,6 +90,15 @@ fn others(bytes: &ByteSet) -> ByteSet {
         }
     }
     others
+}
+
+/// The set of one byte.
+pub fn only(byte: u8) -> ByteSet
+    ensures { IsSetOf (λ b. b == byte) result }
+{
+    let mut bytes = ByteSet::new();
+    bytes.insert(byte);
+    bytes
 }
 
 /// The bytes past ASCII.

@@ -2,14 +2,9 @@
 #![tactic(auto)]
 
 mod around;
-pub mod atoms;
-pub mod choices;
 pub mod entries;
-mod facts;
-mod free;
-pub mod front;
-mod kinds;
+pub mod facts;
+pub mod free;
+pub mod kinds;
 pub mod price;
-pub mod prices;
-mod rows;
-pub mod splits;
+pub mod rows;

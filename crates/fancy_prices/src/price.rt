@@ -17,7 +17,7 @@ pub struct Price {
 
 impl Price {
     /// It opens no choice.
-    pub(crate) fn nothing() -> Price
+    pub fn nothing() -> Price
         ensures { IsNothing result }
     {
         Price {
@@ -62,7 +62,7 @@ impl Price {
     }
 
     /// The same with so many choices more that are opened, and not taken back. `None` where they are more than is told.
-    pub(crate) fn and(self, marks: u8) -> Option<Price>
+    pub fn and(self, marks: u8) -> Option<Price>
         ensures { IfSome result
             (λ p. (p.marks ≡ self.marks + marks) × (p.returns ≡ self.returns)) }
     {
@@ -77,7 +77,7 @@ impl Price {
     }
 
     /// That of a choice of two ways which cost so much. `None` where it is more than is told.
-    pub(crate) fn or(self, other: Price) -> Option<Price>
+    pub fn or(self, other: Price) -> Option<Price>
         ensures { IfSome result (λ p. (p.marks ≡ suc (self.marks + other.marks)) × (p.returns ≡ self.returns + suc other.returns)) }
     {
         let marks = self.marks as u32 + other.marks as u32 + 1;

@@ -4,7 +4,7 @@ ghost use Rattle.std.specs.Prelude.{◌≡◌, ℕ, ◌<◌, ◌≤◌, true, fa
 ghost use Rattle.fancy_input.specs.Lines.{byte_before};
 ghost use Rattle.fancy_input.specs.Places.{is_continuation};
 ghost use Rattle.fancy_bytes.specs.Sets.{member};
-ghost use Rattle.fancy_prices.specs.Rows.{IsCostlyIn, TellsByte, TellsRow, costs_nothing};
+ghost use Rattle.fancy_prices.specs.Rows.{AreWhole, IsCostlyIn, TellsByte, TellsRow, costs_nothing};
 
 use crate::facts::{Before, Facts};
 use crate::free::{price_of, tests_before};
@@ -23,7 +23,10 @@ pub(crate) struct Row {
     pub(crate) prices: [Option<Price>; 256],
     /// At which bytes one costs something, or may find a match.
     pub(crate) costly: [bool; 256],
+    /// Whether one does at some byte.
+    costs: bool,
     ghost free: { IsCostlyIn prices costly },
+    ghost spared: { costs ≡ false → (b : ℕ) → b < 256 → slice_index_or costly b false ≡ false },
 }
 
 /// What attempts cost, by what stands before and by the byte at which they are made.
@@ -64,6 +67,18 @@ pub(crate) fn is_continuation(byte: u8) -> bool
     ensures { result ≡ is_continuation byte }
 {
     byte >= 0x80 && byte < 0xC0
+}
+
+/// Whether no byte of a set is one within a character.
+pub fn are_whole(bytes: &ByteSet) -> bool
+    ensures { result ≡ true → AreWhole bytes.now }
+{
+    for byte in 0..256u32 {
+        if bytes.contains(byte as u8) && is_continuation(byte as u8) {
+            return false;
+        }
+    }
+    true
 }
 
 /// What an attempt costs that is made at the byte, if it is told that it finds nothing. Of one within a character nothing is told but
@@ -128,25 +143,29 @@ fn costly_of(prices: &[Option<Price>; 256]) -> [bool; 256]
     costly
 }
 
+/// Whether an attempt costs something, or may find a match, at some byte.
+fn has_costly(costly: &[bool; 256]) -> bool
+    ensures { result ≡ false → (b : ℕ) → b < 256 → slice_index_or costly.now b false ≡ false }
+{
+    for byte in 0..256u32 {
+        if costly[byte as usize] {
+            return true;
+        }
+    }
+    false
+}
+
 impl Row {
     fn new(prices: [Option<Price>; 256]) -> Row
         ensures { result.prices ≡ prices }
     {
         let costly = costly_of(&prices);
-        Row { prices, costly }
-    }
-
-    /// Whether an attempt costs something, or may find a match, at some byte.
-    fn has_costly(&self) -> bool
-        ensures { result ≡ false → (b : ℕ) → b < 256
-            → slice_index_or self.now.costly b false ≡ false }
-    {
-        for byte in 0..256u32 {
-            if self.costly[byte as usize] {
-                return true;
-            }
+        let costs = has_costly(&costly);
+        Row {
+            prices,
+            costly,
+            costs,
         }
-        false
     }
 }
 
@@ -287,7 +306,7 @@ impl Rows {
     {
         let mut bytes = ByteSet::new();
         for byte in 0..256u32 {
-            if self.after(byte as u8).has_costly() {
+            if self.after(byte as u8).costs {
                 bytes.insert(byte as u8);
             }
         }

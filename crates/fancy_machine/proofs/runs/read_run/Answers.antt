@@ -1,5 +1,5 @@
 use Rattle.std.proofs.Common.{sym, subst, ℕ}
-use Rattle.fancy_prices.specs.Splits.{IsNoted}
+use Rattle.fancy_splits.specs.Splits.{IsNoted}
 use Rattle.fancy_machine.proofs.PassLemmas.{run_known}
 use Rattle.fancy_machine.proofs.runs.read_run.Goals as goal
 

@@ -11,9 +11,9 @@ use Rattle.fancy_code.proofs.PositionLemmas.{positions_none, positions_some}
 use Rattle.fancy_meaning.proofs.AttemptLemmas.{search_over}
 use Rattle.fancy_meaning.specs.Tried.{tried}
 use Rattle.fancy_machine.proofs.MachineSearch.{asked_request, is_asked, gone_hit, gone_more, gone_counts, gone_over}
-use Rattle.fancy_prices.specs.declared.splits.Splits.{Splits}
+use Rattle.fancy_splits.specs.declared.splits.Splits.{Splits}
 use Rattle.fancy_prices.specs.Entries.{AreEntries, IsToldAt, is_entry}
-use Rattle.fancy_prices.specs.Front.{IsFront}
+use Rattle.fancy_splits.specs.Front.{IsFront}
 use Rattle.fancy_machine.proofs.SeekLemmas.{goes_on, tried_somewhere}
 use Rattle.fancy_machine.proofs.AnswerLemmas.{keeps_none, keeps_on, limits_none, limits_ok, limits_err, answers_ok, answers_err}
 use Rattle.fancy_machine.proofs.search.search.Goals as goal

@@ -1,6 +1,6 @@
 use Rattle.std.proofs.Common.{subst}
 use Rattle.fancy_code.specs.Code.{instrs_of}
-use Rattle.fancy_prices.specs.Splits.{IsPart, IsTold}
+use Rattle.fancy_splits.specs.Splits.{IsPart, IsTold}
 use Rattle.fancy_machine.proofs.attempt.Attempt.pass_part.Goals as goal
 
 pub pass-requires-clause-noted : goal.pass-requires-clause-noted

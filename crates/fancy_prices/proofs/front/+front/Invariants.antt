@@ -1,4 +1,0 @@
-use Rattle.fancy_prices.proofs.front.+front.Given as goal
-
-abbrev pub decreases-front_from : goal.decreases-front_from
-decreases-front_from l = l.deep

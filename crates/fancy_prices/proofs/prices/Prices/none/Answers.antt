@@ -1,4 +1,0 @@
-use Rattle.fancy_prices.proofs.prices.Prices.none.Goals as goal
-
-pub returns : goal.returns
-returns c code = record { entries = c.all.ensures code; splits = c.none.ensures code; front = tt }

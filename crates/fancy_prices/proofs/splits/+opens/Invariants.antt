@@ -1,4 +1,0 @@
-use Rattle.fancy_prices.proofs.splits.+opens.Given as goal
-
-abbrev pub decreases-opens_choice : goal.decreases-opens_choice
-decreases-opens_choice l = l.deep

@@ -1,0 +1,4 @@
+pub mod SplitLemmas
+pub mod LoopLemmas
+pub mod FrontLemmas
+pub mod PassageLemmas

@@ -1,0 +1,4 @@
+pub mod Splits
+pub mod Front
+pub mod Told
+pub mod Once

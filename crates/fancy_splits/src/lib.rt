@@ -1,0 +1,8 @@
+//! At which bytes the ways of a choice of hard code may go on, and where the byte leads.
+#![tactic(auto)]
+
+pub mod atoms;
+pub mod choices;
+pub mod front;
+pub mod prices;
+pub mod splits;
