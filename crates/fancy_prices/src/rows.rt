@@ -23,10 +23,7 @@ pub(crate) struct Row {
     pub(crate) prices: [Option<Price>; 256],
     /// At which bytes one costs something, or may find a match.
     pub(crate) costly: [bool; 256],
-    /// Whether one does at some byte.
-    costs: bool,
     ghost free: { IsCostlyIn prices costly },
-    ghost spared: { costs ≡ false → (b : ℕ) → b < 256 → slice_index_or costly b false ≡ false },
 }
 
 /// What attempts cost, by what stands before and by the byte at which they are made.
@@ -143,29 +140,25 @@ fn costly_of(prices: &[Option<Price>; 256]) -> [bool; 256]
     costly
 }
 
-/// Whether an attempt costs something, or may find a match, at some byte.
-fn has_costly(costly: &[bool; 256]) -> bool
-    ensures { result ≡ false → (b : ℕ) → b < 256 → slice_index_or costly.now b false ≡ false }
-{
-    for byte in 0..256u32 {
-        if costly[byte as usize] {
-            return true;
-        }
-    }
-    false
-}
-
 impl Row {
     fn new(prices: [Option<Price>; 256]) -> Row
         ensures { result.prices ≡ prices }
     {
         let costly = costly_of(&prices);
-        let costs = has_costly(&costly);
-        Row {
-            prices,
-            costly,
-            costs,
+        Row { prices, costly }
+    }
+
+    /// Whether an attempt costs something, or may find a match, at some byte.
+    fn has_costly(&self) -> bool
+        ensures { result ≡ false → (b : ℕ) → b < 256
+            → slice_index_or self.now.costly b false ≡ false }
+    {
+        for byte in 0..256u32 {
+            if self.costly[byte as usize] {
+                return true;
+            }
         }
+        false
     }
 }
 
@@ -299,14 +292,38 @@ impl Rows {
         bytes
     }
 
+    /// Whether the row with a number has a byte at which one does.
+    fn has_costly(&self, number: usize) -> bool
+        ensures { result ≡ false → (here : ℕ) → here < 256
+            → costly_in (slice_get self.now.rows.items number) here ≡ false }
+    {
+        match self.rows.get(number) {
+            Some(row) => row.has_costly(),
+            None => true,
+        }
+    }
+
+    /// The rows that have a byte at which one does, by their number.
+    fn costly_rows(&self) -> [bool; 256]
+        ensures { (k : ℕ) → k < 256 → slice_index_or result k false ≡ false → (here : ℕ) → here < 256
+            → costly_in (slice_get self.now.rows.items k) here ≡ false }
+    {
+        let mut costly = [false; 256];
+        for number in 0..256usize {
+            costly[number] = self.has_costly(number);
+        }
+        costly
+    }
+
     /// The bytes after which one does, at some byte.
     pub(crate) fn bytes_before(&self) -> ByteSet
         ensures { (b : ℕ) → b < 256 → member result b ≡ false
             → (here : ℕ) → here < 256 → costly_in (row_of self.now (Some b)) here ≡ false }
     {
+        let costly = self.costly_rows();
         let mut bytes = ByteSet::new();
         for byte in 0..256u32 {
-            if self.after(byte as u8).costs {
+            if costly[self.numbers[byte as usize] as usize] {
                 bytes.insert(byte as u8);
             }
         }
