@@ -16,7 +16,7 @@ use Rattle.fancy_meaning.specs.Tried.{may_begin, tried, NoneTried}
 use Rattle.fancy_meaning.proofs.SkipLemmas.{skip_none}
 use Rattle.fancy_code.proofs.TriedLemmas.{passed_over}
 use Rattle.fancy_prices.specs.declared.price.Price.{Price}
-use Rattle.fancy_prices.specs.Entries.{AreEntries, EntryTest, IsNextEntry, IsPassed, IsToldAt, IsToldOf}
+use Rattle.fancy_prices.specs.Entries.{AreEntries, EntryTest, IsNextEntry, IsToldAt, IsToldOf}
 use Rattle.fancy_prices.specs.Prices.{CostsAt, CostsNothingAt}
 use Rattle.fancy_machine.specs.declared.attempt.Attempt.{Attempt}
 use Rattle.fancy_machine.specs.Asked.{Serves}

@@ -5,8 +5,7 @@
 //! saved when a write to it was logged last. Where a region ends and its branches are dropped, the writes that were logged for them
 //! are left out of the log, but for the first ones since the branch that is the last one then.
 
-ghost use Rattle.std.specs.Prelude.{◌≡◌, ◌≤◌, map, length, take, drop, filter, replicate, OnOk, vec_len, slice_set, slice_index_or, is_some, ℕ};
-ghost use Rattle.fancy_code.specs.Thread.{slot_span};
+ghost use Rattle.std.specs.Prelude.{◌≡◌, ◌≤◌, map, length, take, drop, filter, replicate, OnOk, vec_len, slice_set, slice_index_or, ℕ};
 ghost use Rattle.fancy_machine.specs.Log.{cell_slot, cell_level, empty_cell, old_cell, undone_by, is_kept, lowered};
 
 use fancy_code::slot::{EMPTY, Slot};
@@ -40,16 +39,6 @@ pub(crate) fn cell_at(cells: &[Cell], number: usize) -> Cell
     match cells.get(number) {
         Some(cell) => *cell,
         None => EMPTY_CELL,
-    }
-}
-
-/// Whether the group of a slot has taken part.
-pub(crate) fn has_span(slot: Slot) -> bool
-    ensures { result ≡ is_some (slot_span slot) }
-{
-    match slot.span {
-        Some(_) => true,
-        None => false,
     }
 }
 
@@ -92,8 +81,9 @@ pub(crate) fn forget_levels(cells: &mut Vec<Cell>)
     }
 }
 
-/// Undoes the writes of a log, the last one first, down to a length.
-pub(crate) fn undo(cells: &mut Vec<Cell>, log: &mut Vec<Write>, down: usize)
+/// Undoes the writes of a log that has more, the last one first, down to a length.
+#[inline(never)]
+fn undo_last(cells: &mut Vec<Cell>, log: &mut Vec<Write>, down: usize)
     requires { down ≤ vec_len log.old }
     ensures cells { cells.new.items ≡ undone_by old_cell cells.old.items (drop down log.old.items) }
     ensures log { log.new.items ≡ take down log.old.items }
@@ -105,6 +95,18 @@ pub(crate) fn undo(cells: &mut Vec<Cell>, log: &mut Vec<Write>, down: usize)
         if write.group < cells.len() {
             cells[write.group] = write.old;
         }
+    }
+}
+
+/// Undoes the writes of a log, the last one first, down to a length. Most often it has no more.
+#[inline]
+pub(crate) fn undo(cells: &mut Vec<Cell>, log: &mut Vec<Write>, down: usize)
+    requires { down ≤ vec_len log.old }
+    ensures cells { cells.new.items ≡ undone_by old_cell cells.old.items (drop down log.old.items) }
+    ensures log { log.new.items ≡ take down log.old.items }
+{
+    if log.len() > down {
+        undo_last(cells, log, down);
     }
 }
 

@@ -33,8 +33,8 @@ use fancy_meaning::options::is_match_boundary;
 use fancy_meaning::reading::ready_last_lines;
 use fancy_prefilter::candidates::next_candidate;
 use fancy_prices::entries::{Entries, Priced};
-use fancy_splits::front::Front;
 use fancy_prices::price::Price;
+use fancy_splits::front::Front;
 use std::alloc::Global;
 
 /// What searches work in, reused from one to the next, with the groups of the last match.
@@ -129,13 +129,14 @@ pub fn search(
     if first > request.range_end {
         return Ok(None);
     }
+    let entries = &prices.entries;
     let splits = &prices.splits;
     let attempt = Attempt::new(code, splits, haystack, request, options, asked.continues);
     let limit = work.returns() + options.backtrack_limit;
     let last = request.last_position();
     let positions = Positions {
         code,
-        entries: &prices.entries,
+        entries,
         front: &prices.front,
         haystack,
         range_end: request.range_end,
@@ -146,7 +147,8 @@ pub fn search(
     ready_last_lines(&mut cache.seen.last_lines, attempt.haystack, is_kept);
     let mut place = positions.next(first);
     while place <= last {
-        if let Some(price) = positions.price(place, options.stack_limit) {
+        let price = entries.price(haystack, request.range_end, place, options.stack_limit);
+        if let Some(price) = price {
             let on = pass_priced(&attempt, &positions, place, price, limit, work)?;
             place = positions.next(on);
             continue;
@@ -206,19 +208,6 @@ impl Positions<'_> {
         }
         self.entries
             .next(self.haystack, self.range_end, from, self.last)
-    }
-
-    /// What an attempt costs at a position, if it is told that it finds nothing there, and saves no more branches than so many.
-    #[inline]
-    fn price(&self, place: usize, most: usize) -> Option<Price>
-        requires inside { self.now.range_end ≤ length self.now.haystack.now }
-        ensures { IfSome result (IsToldAt (is_entry self.now.entries.now)
-            self.now.haystack.now self.now.range_end place) }
-    {
-        match self.entries.price(self.haystack, self.range_end, place) {
-            Some(price) if price.marks as usize <= most => Some(price),
-            _ => None,
-        }
     }
 
     /// How many positions may be passed over together by their prices: one where it seeks.
@@ -331,21 +320,6 @@ fn pass_priced(
     Ok(priced.past)
 }
 
-/// What an attempt costs at a position, if it is told that it finds nothing there, and saves no more branches than the options allow.
-#[inline(always)]
-fn told_price(asked: &Asked<'_>, haystack: &[u8], position: usize) -> Option<Price>
-    requires inside { asked.now.request.range_end ≤ length haystack.now }
-    ensures { IfSome result (IsToldAt (is_entry asked.now.prices.now.entries)
-        haystack.now asked.now.request.range_end position) }
-{
-    let range_end = asked.request.range_end;
-    let price = asked.prices.entries.price(haystack, range_end, position)?;
-    if price.marks as usize <= asked.options.stack_limit {
-        return Some(price);
-    }
-    None
-}
-
 /// Makes one attempt alone, at a position from the effective start on. What is found is what [`search`] would take at this
 /// position, whatever stands at the positions before: `\G` holds at the effective start of the request.
 ///
@@ -373,14 +347,18 @@ pub fn attempt_at(
         result cache.old cache.new work.old work.new }
 {
     let code = asked.code;
-    let splits = &asked.prices.splits;
+    let prices = asked.prices;
     let request = asked.request;
     let options = asked.options;
     let limit = work.returns() + options.backtrack_limit;
-    if let Some(price) = told_price(asked, haystack, position) {
+    let price = prices
+        .entries
+        .price(haystack, request.range_end, position, options.stack_limit);
+    if let Some(price) = price {
         work.count_returns(price.returns as usize, limit, options.step_limit)?;
         return Ok(None);
     }
+    let splits = &prices.splits;
     let attempt = Attempt::new(code, splits, haystack, request, options, asked.continues);
     cache.seen.last_run = LastRun::none();
     ready_last_lines(&mut cache.seen.last_lines, attempt.haystack, false);

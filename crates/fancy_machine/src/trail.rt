@@ -16,7 +16,7 @@ use crate::attempt::Attempt;
 use crate::layer::{
     Kind, Layer, cut, earlier, is_ended, is_ended_by_any, is_saved, put_layer, region_by, take_last,
 };
-use crate::log::{Cell, Write, begin_cells, cell_at, forget_levels, has_span, thin, undo};
+use crate::log::{Cell, Write, begin_cells, cell_at, forget_levels, thin, undo};
 use crate::runs::places_dead;
 use fancy_code::slot::Slot;
 use fancy_code::step::Next;
@@ -188,7 +188,7 @@ impl Trail {
     pub fn is_taken(&self, group: usize) -> bool
         ensures { result ≡ is_some (group_span self.now.now.state group) }
     {
-        has_span(cell_at(&self.cells, group).slot)
+        self.span(group).is_some()
     }
 
     /// Where the text of a group stands, if it has taken part.

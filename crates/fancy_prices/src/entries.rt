@@ -306,10 +306,16 @@ impl Entries {
         }
     }
 
-    /// What an attempt costs at a place, if it is told that it finds nothing there. `None` at the end of the range, and where the
-    /// attempt must be made.
+    /// What an attempt costs at a place, if it is told that it finds nothing there, and saves no more branches than so many. `None` at
+    /// the end of the range, and where the attempt must be made.
     #[inline]
-    pub fn price(&self, haystack: &[u8], range_end: usize, place: usize) -> Option<Price>
+    pub fn price(
+        &self,
+        haystack: &[u8],
+        range_end: usize,
+        place: usize,
+        most: usize,
+    ) -> Option<Price>
         requires inside { range_end ≤ length haystack.now }
         ensures { IfSome result (λ p. IsToldAt (is_entry self.now) haystack.now range_end place p) }
     {
@@ -319,7 +325,10 @@ impl Entries {
         if place >= range_end {
             return None;
         }
-        told.price(haystack, place)
+        match told.price(haystack, place) {
+            Some(price) if price.marks as usize <= most => Some(price),
+            _ => None,
+        }
     }
 
     /// The positions from one on, of which this price is told, up to one of which none is told, or at which an

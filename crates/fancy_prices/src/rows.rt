@@ -60,14 +60,14 @@ pub(crate) fn tells_some(row: &[Option<Price>; 256]) -> bool {
 }
 
 /// Whether a byte continues a character of UTF-8.
-pub(crate) fn is_continuation(byte: u8) -> bool
+pub fn is_continuation(byte: u8) -> bool
     ensures { result ≡ is_continuation byte }
 {
     byte >= 0x80 && byte < 0xC0
 }
 
 /// Whether no byte of a set is one within a character.
-pub fn are_whole(bytes: &ByteSet) -> bool
+pub(crate) fn are_whole(bytes: &ByteSet) -> bool
     ensures { result ≡ true → AreWhole bytes.now }
 {
     for byte in 0..256u32 {

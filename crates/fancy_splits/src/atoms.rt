@@ -5,8 +5,7 @@ ghost use Rattle.fancy_bytes.specs.Sets.{member};
 ghost use Rattle.fancy_code.specs.Code.{instrs_of};
 ghost use Rattle.fancy_splits.specs.Splits.{IsToldAtom};
 
-use crate::splits::{past_item, reader_at, reader_of, stop_at};
-use fancy_bytes::byte_set::ByteSet;
+use crate::splits::{flags_of, past_item, reader_at, reader_of, stop_at};
 use fancy_code::code::{Code, Instr};
 
 /// An atomic group round a loop of one item. An item of its own may stand before the loop.
@@ -25,16 +24,17 @@ pub struct ToldAtom {
     /// Whether an item stands before the loop.
     pub leads: bool,
     // bytes that are that item by themselves
-    items: ByteSet,
+    items: [bool; 256],
 }
 
 impl ToldAtom {
     /// Whether the byte is by itself the item before the loop.
     #[inline]
+    #[tactic(auto, unfolding(fancy_bytes::specs::Sets::member))]
     pub fn may_lead(&self, byte: u8) -> bool
         ensures { result ≡ member self.now.items byte }
     {
-        self.items.contains(byte)
+        self.items[byte as usize]
     }
 }
 
@@ -61,7 +61,7 @@ pub(crate) fn atom_at(code: &Code, at: usize) -> Option<ToldAtom>
             body: *body,
             head: *body,
             leads: false,
-            items: ByteSet::new(),
+            items: [false; 256],
         });
     }
     let head = past_item(code, *body)?;
@@ -73,6 +73,6 @@ pub(crate) fn atom_at(code: &Code, at: usize) -> Option<ToldAtom>
         body: *body,
         head,
         leads: true,
-        items: reader.items,
+        items: flags_of(&reader.items),
     })
 }

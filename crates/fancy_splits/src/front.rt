@@ -3,6 +3,7 @@
 ghost use Rattle.std.specs.Prelude.{◌≡◌, ℕ, ◌<◌, true, IfSome};
 ghost use Rattle.fancy_bytes.specs.Sets.{member};
 ghost use Rattle.fancy_code.specs.Code.{instrs_of};
+ghost use Rattle.fancy_prices.specs.Rows.{AreWhole};
 ghost use Rattle.fancy_splits.specs.Front.{DiesAtEach, IsFront};
 
 use crate::splits::{Splits, ToldSplit, reader_at};
@@ -11,7 +12,7 @@ use fancy_code::code::{Code, Instr};
 use fancy_prices::facts::Facts;
 use fancy_prices::free::is_free;
 use fancy_prices::price::Price;
-use fancy_prices::rows::are_whole;
+use fancy_prices::rows::is_continuation;
 
 /// How many instructions are followed one after another.
 const DEPTH: usize = 48;
@@ -61,6 +62,18 @@ fn are_among(split: &ToldSplit, items: &ByteSet) -> bool
     true
 }
 
+/// Whether no item of a loop that is one byte is a byte within a character.
+fn are_whole(split: &ToldSplit) -> bool
+    ensures { result ≡ true → AreWhole split.now.items }
+{
+    for byte in 0..256u32 {
+        if split.is_item(byte as u8) && is_continuation(byte as u8) {
+            return false;
+        }
+    }
+    true
+}
+
 /// The loop that the code comes to from an instruction on, if there is one that what follows is apart from.
 #[cycle(front)]
 fn front_from(code: &Code, splits: &Splits, at: usize, deep: usize) -> Option<Front>
@@ -93,7 +106,7 @@ fn front_from(code: &Code, splits: &Splits, at: usize, deep: usize) -> Option<Fr
             Some(Front {
                 at: *next,
                 before: Price::nothing(),
-                whole: are_whole(&split.items),
+                whole: are_whole(split),
             })
         }
         _ => None,

@@ -46,36 +46,39 @@ pub struct ToldSplit {
     /// Whether the second way cannot go on where an item of one byte stands.
     pub apart: bool,
     // bytes that are an item by themselves
-    pub(crate) items: ByteSet,
+    pub(crate) items: [bool; 256],
     // bytes at which the first way may cost something, or find a match
-    begins: ByteSet,
+    begins: [bool; 256],
     // bytes at which the second way may cost something, or find a match
-    leaves: ByteSet,
+    leaves: [bool; 256],
 }
 
 impl ToldSplit {
     /// Whether the byte is an item by itself. In text by characters that is told of ASCII alone, and of a loop of one raw byte.
     #[inline]
+    #[tactic(auto, unfolding(fancy_bytes::specs::Sets::member))]
     pub fn is_item(&self, byte: u8) -> bool
         ensures { result ≡ member self.now.items byte }
     {
-        self.items.contains(byte)
+        self.items[byte as usize]
     }
 
     /// Whether the first way may cost something, or find a match, where the byte stands: an item may begin there.
     #[inline]
+    #[tactic(auto, unfolding(fancy_bytes::specs::Sets::member))]
     pub fn may_begin(&self, byte: u8) -> bool
         ensures { result ≡ member self.now.begins byte }
     {
-        self.begins.contains(byte)
+        self.begins[byte as usize]
     }
 
     /// Whether the second way may cost something, or find a match, where the byte stands.
     #[inline]
+    #[tactic(auto, unfolding(fancy_bytes::specs::Sets::member))]
     pub fn may_leave(&self, byte: u8) -> bool
         ensures { result ≡ member self.now.leaves byte }
     {
-        self.leaves.contains(byte)
+        self.leaves[byte as usize]
     }
 }
 
@@ -290,12 +293,24 @@ fn leaves_of(code: &Code, at: usize) -> ByteSet
     begins_of(code, at)
 }
 
+/// The bytes of a set as flags: a test reads one.
+pub(crate) fn flags_of(set: &ByteSet) -> [bool; 256]
+    ensures { (b : ℕ) → b < 256 → member result b ≡ member set.now b }
+{
+    let mut flags = [false; 256];
+    for byte in 0..256u32 {
+        flags[byte as usize] = set.contains(byte as u8);
+    }
+    flags
+}
+
 /// Whether no byte is in both sets.
-fn are_apart(items: &ByteSet, leaves: &ByteSet) -> bool
+#[tactic(auto, unfolding(fancy_bytes::specs::Sets::member))]
+fn are_apart(items: &[bool; 256], leaves: &[bool; 256]) -> bool
     ensures { result ≡ true → AreApart items.now leaves.now }
 {
     for byte in 0..256u32 {
-        if items.contains(byte as u8) && leaves.contains(byte as u8) {
+        if items[byte as usize] && leaves[byte as usize] {
             return false;
         }
     }
@@ -312,15 +327,16 @@ fn split_at(code: &Code, at: usize) -> Option<ToldSplit>
     if !reader.is_item {
         return None;
     }
-    let begins = begins_of(code, ways.first);
-    let leaves = leaves_of(code, ways.second);
+    let items = flags_of(&reader.items);
+    let begins = flags_of(&begins_of(code, ways.first));
+    let leaves = flags_of(&leaves_of(code, ways.second));
     Some(ToldSplit {
         first: ways.first,
         second: ways.second,
         group: reader.group,
         stop: stop_at(code, ways.second),
-        apart: are_apart(&reader.items, &leaves),
-        items: reader.items,
+        apart: are_apart(&items, &leaves),
+        items,
         begins,
         leaves,
     })

@@ -1,7 +1,7 @@
 use Rattle.std.proofs.Common.{◌≡◌, ◌≤◌, drop, take}
 use Rattle.std.specs.Prelude.{vec_len}
 use Rattle.fancy_machine.specs.Log.{old_cell, undone_by}
-use Rattle.fancy_machine.proofs.log.undo.Given as goal
+use Rattle.fancy_machine.proofs.log.undo_last.Given as goal
 
 abbrev pub invariant-writes : goal.invariant-writes
 invariant-writes l = record {

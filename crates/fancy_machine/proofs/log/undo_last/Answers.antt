@@ -1,7 +1,7 @@
 use Rattle.std.proofs.Common.{sym, ◌∙◌, arith}
 use Rattle.std.proofs.lemmas.List.{set_past}
 use Rattle.fancy_machine.proofs.LogLemmas.{undo_pop}
-use Rattle.fancy_machine.proofs.log.undo.Goals as goal
+use Rattle.fancy_machine.proofs.log.undo_last.Goals as goal
 
 pub writes-preserved-then-write-len : goal.writes-preserved-then-write-len
 writes-preserved-then-write-len c =
