@@ -128,6 +128,12 @@ pub fn find_in_list(
 
 /// The match that an attempt at one position finds, as [`find_in_list`], for a regex that is not easy. It goes on with no notes.
 ///
+/// ```text
+/// let regex = Regex::new(alloc, "(?<=a)b")?;       // asked of "ab"
+/// find_hard(&regex, &asked, 0, &mut cache)?        // None
+/// find_hard(&regex, &asked, 1, &mut cache)?        // 1..2
+/// ```
+///
 /// It is refused as [`find_at`] is.
 pub fn find_hard(
     regex: &Regex,
