@@ -2,7 +2,6 @@
 
 ghost use Rattle.std.specs.Prelude.{◌≡◌, ◌==◌, ◌↔◌, IfOk, IfErr, IsTrue, length};
 ghost use Rattle.fancy_search.specs.Options.{by_default};
-ghost use Rattle.fancy_core.specs.Built.{IsReading};
 ghost use Rattle.fancy_regex.specs.Builders.{options_of};
 ghost use Rattle.fancy_regex.specs.Candidates.{AreCandidatesOf, TellStarters};
 ghost use Rattle.fancy_regex.specs.Strictest.{IsStrictest};
@@ -94,7 +93,8 @@ impl RegexSet {
     {
         let mut members = Vec::new(alloc);
         for pattern in patterns {
-            let member = read(alloc, *pattern, options)?;
+            let text = String::from_str(alloc, *pattern)?;
+            let member = options.build(text)?;
             members.push(member)?;
         }
         Ok(RegexSet::from_regexes(members))
@@ -162,12 +162,4 @@ fn strictest(members: &[Regex]) -> usize
         }
     }
     0
-}
-
-/// Reads a pattern of a set.
-fn read(alloc: Global, pattern: &str, options: &RegexOptionsBuilder) -> Result<Regex>
-    ensures { IsReading (options_of options.now) pattern.now result }
-{
-    let text = String::from_str(alloc, pattern)?;
-    options.build(text)
 }

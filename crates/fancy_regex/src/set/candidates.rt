@@ -85,15 +85,6 @@ impl Groups {
         by_byte
     }
 
-    /// The groups that are in both.
-    fn and(self, other: Groups) -> Groups
-        ensures { (g : ℕ) → has_group result g ≡ (has_group self g && has_group other g) }
-    {
-        Groups {
-            bits: self.bits & other.bits,
-        }
-    }
-
     /// These groups without those that have no place in the table for this byte. With `None` all stay.
     fn narrowed(self, by_byte: &[Groups; 256], next: Option<u8>) -> Groups
         ensures held { (width : ℕ) (members : List Regex) (searched : List ℕ) (p place : ℕ)
@@ -104,7 +95,9 @@ impl Groups {
     {
         match next {
             None => self,
-            Some(byte) => self.and(by_byte[byte as usize]),
+            Some(byte) => Groups {
+                bits: self.bits & by_byte[byte as usize].bits,
+            },
         }
     }
 
