@@ -323,6 +323,7 @@ impl Trail {
     }
 
     /// Writes to a group. What stood there is logged, if that is the first write to it since the last branch was saved.
+    #[inline(always)]
     fn write(&mut self, group: usize, slot: Slot) -> Result<(), AllocError>
         ensures { GoesOnIfOk result (written group slot self.old.now) self.old self.new }
     {
@@ -427,6 +428,7 @@ impl Trail {
     }
 
     /// The way stops: the innermost region ends where it may, and what is round it goes on at `next`.
+    #[inline(always)]
     pub fn stop(&mut self, next: usize) -> Next
         ensures stopped { Stops result next self.old self.new.now self.new.frames }
         ensures most { self.new.most ≡ self.old.most }
