@@ -76,7 +76,7 @@ CALLS = {
     "patterns": {
         "Regex": "as_str captures_len capture_names is_easy code_len may_start_before",
         "RegexOptionsBuilder": "start_bytes required_bytes",
-        "ByteSet": "contains len is_empty iter new all insert union intersection",
+        "ByteSet": "contains len is_empty iter new of all insert union intersection",
         "BytesMode": "default meaning keeps_characters",
         "Error": "name",
         "Explain": "explain",

@@ -4,7 +4,7 @@ ghost use Rattle.std.specs.Iterator.{YieldsFirst};
 ghost use Rattle.std.specs.Prelude.{◌<◌, ◌==◌, ◌≡◌, IfErr, IfOk, chars, false, length, true, ℕ};
 ghost use Rattle.fancy_regex.specs.Builders.{options_of};
 ghost use Rattle.fancy_regex.specs.ByteIterations.{members_left};
-ghost use Rattle.fancy_regex.specs.ByteMembers.{AddsBytes, KeepsBytes, all_members, member};
+ghost use Rattle.fancy_regex.specs.ByteMembers.{AddsBytes, IsSetOf, KeepsBytes, all_members, member};
 ghost use Rattle.fancy_regex.specs.ByteSets.{HasRequiredBytes, HasStartBytes};
 ghost use Rattle.fancy_regex.specs.Dialect.{IsPattern};
 ghost use Rattle.fancy_regex.specs.Options.{dialect_of};
@@ -47,6 +47,13 @@ pub fn required_bytes(
         → IfErr result (λ e. e ≡ Memory) }
 {
     options.required_bytes(alloc, pattern)
+}
+
+/// The set of one byte.
+pub fn of(byte: u8) -> ByteSet
+    ensures { IsSetOf (λ b. b == byte) result }
+{
+    ByteSet::of(byte)
 }
 
 /// The set without members, and that of all bytes.

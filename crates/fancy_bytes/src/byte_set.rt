@@ -2,7 +2,7 @@
 
 ghost use Rattle.std.specs.Prelude.{◌≡◌, ℕ, ◌-◌, ◌<◌, ◌==◌, ◌||◌, ◌&&◌, List, Bool, false, true, length, slice_index, bit_or, bit_and};
 ghost use Rattle.fancy_tree.specs.CharSet.{bit};
-ghost use Rattle.fancy_bytes.specs.Sets.{ByteFlags, member, flags_in_words, all_members, AddsBytes, KeepsBytes};
+ghost use Rattle.fancy_bytes.specs.Sets.{ByteFlags, member, flags_in_words, all_members, AddsBytes, IsSetOf, KeepsBytes};
 
 use std::marker::Model;
 
@@ -58,6 +58,15 @@ impl ByteSet {
         ensures { (b : ℕ) → b < 256 → member result b ≡ false }
     {
         ByteSet { words: [0; 4] }
+    }
+
+    /// The set of one byte.
+    pub fn of(byte: u8) -> ByteSet
+        ensures { IsSetOf (λ b. b == byte) result }
+    {
+        let mut set = ByteSet::new();
+        set.insert(byte);
+        set
     }
 
     /// The set of all bytes.

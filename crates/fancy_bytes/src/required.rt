@@ -27,7 +27,7 @@ pub fn required_bytes(tree: &Tree, meaning: Meaning) -> ByteSet
         Tree::Character(c) => bytes_of_character(*c, meaning),
         Tree::Member(set) => bytes_of_one(set.edges(), meaning),
         Tree::InAnyCase(set) => bytes_of_all(set.edges(), meaning),
-        Tree::RawByte(byte) => byte_alone(*byte),
+        Tree::RawByte(byte) => ByteSet::of(*byte),
         Tree::Group { body, .. } => required_bytes(body, meaning),
         Tree::Atomic(body) => required_bytes(body, meaning),
         Tree::Repeat { low, body, .. } => required_where(*low >= 1, body, meaning),
@@ -90,15 +90,6 @@ fn required_in_each(trees: &[Tree], meaning: Meaning) -> ByteSet
         let more = required_bytes(&trees[i], meaning);
         set = set.intersection(&more);
     }
-    set
-}
-
-/// The set of one byte.
-fn byte_alone(byte: u8) -> ByteSet
-    ensures { IsSetOf (λ b. b == byte) result }
-{
-    let mut set = ByteSet::new();
-    set.insert(byte);
     set
 }
 

@@ -243,9 +243,7 @@ fn starts_at(code: &Code, anchor: Assertion) -> bool
 fn line_feeds() -> Scan
     ensures { member result 10 ≡ true }
 {
-    let mut set = ByteSet::new();
-    set.insert(b'\n');
-    Scan::new(set)
+    Scan::new(ByteSet::of(b'\n'))
 }
 
 /// The sets of the bytes that may stand at so many first places of what the code consumes from an instruction on, as far as they are

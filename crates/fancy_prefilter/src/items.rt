@@ -37,15 +37,6 @@ pub fn is_ascii(edges: &[u32]) -> bool
     edges.len() % 2 == 0
 }
 
-/// The set of this byte.
-fn byte_alone(byte: u8) -> ByteSet
-    ensures { member result byte ≡ true }
-{
-    let mut bytes = ByteSet::new();
-    bytes.insert(byte);
-    bytes
-}
-
 /// The bytes that characters past ASCII consist of.
 fn high_bytes() -> ByteSet
     ensures { (b : ℕ) → 128 ≤ b → b < 256 → member result b ≡ true }
@@ -92,7 +83,7 @@ fn add_encoding(sets: &mut Vec<ByteSet>, from: usize, exact: bool, bytes: &[u8])
     ensures has { HasEncoding sets.new.items from exact bytes.now }
 {
     for i in 0..bytes.len() {
-        add_bytes(sets, from + i, exact, &byte_alone(bytes[i]));
+        add_bytes(sets, from + i, exact, &ByteSet::of(bytes[i]));
     }
 }
 

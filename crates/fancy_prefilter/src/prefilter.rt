@@ -112,7 +112,7 @@ impl Prefilter {
         }
         match &self.starts {
             None => true,
-            Some(scan) => !scan.has_one(),
+            Some(scan) => scan.only().is_none(),
         }
     }
 

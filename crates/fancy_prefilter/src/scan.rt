@@ -16,30 +16,21 @@ use fancy_tree::tree::{Meaning, Tree};
 use memchr::memchr;
 use std::marker::Model;
 
-/// Whether the set has this member and no other.
-fn is_only(set: &ByteSet, byte: u8) -> bool
-    ensures { IsTrue result ↔ IsSetOf (λ b. b == byte) set.now }
-{
-    for other in 0..256u32 {
-        let other = other as u8;
-        if set.contains(other) != (other == byte) {
-            return false;
-        }
-    }
-    true
-}
-
 /// The member of a set that has one. `None` where it has none, or more.
 fn only_member(set: &ByteSet) -> Option<u8>
     ensures { MatchOption result ((byte : ℕ) → byte < 256 → ¬ (IsSetOf (λ b. b == byte) set.now)) (λ byte. IsSetOf (λ b. b == byte) set.now) }
 {
+    let mut only = None;
     for code in 0..256u32 {
         let byte = code as u8;
         if set.contains(byte) {
-            return if is_only(set, byte) { Some(byte) } else { None };
+            if only.is_some() {
+                return None;
+            }
+            only = Some(byte);
         }
     }
-    None
+    only
 }
 
 /// A set of bytes, made ready for scans, many places at a time: a set of one byte is searched for as that byte, and a set of
@@ -70,12 +61,7 @@ impl Scan {
         Scan { set, only, tables }
     }
 
-    /// Whether the set has one byte alone. It tells how fast a scan is, and no answer rests on it.
-    pub fn has_one(&self) -> bool {
-        self.only.is_some()
-    }
-
-    /// The byte of a set that has one alone, for which a scan is asked or not.
+    /// The byte of a set that has one alone. It tells how fast a scan is, and no answer rests on it.
     pub fn only(&self) -> Option<u8> {
         self.only
     }

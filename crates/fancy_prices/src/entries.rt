@@ -317,7 +317,8 @@ impl Entries {
         most: usize,
     ) -> Option<Price>
         requires inside { range_end ≤ length haystack.now }
-        ensures { IfSome result (λ p. IsToldAt (is_entry self.now) haystack.now range_end place p) }
+        ensures told { IfSome result (λ p. IsToldAt (is_entry self.now) haystack.now range_end place p) }
+        ensures few { IfSome result (λ p. p.marks ≤ most) }
     {
         let Some(told) = self.told() else {
             return None;
@@ -373,7 +374,7 @@ impl Entries {
         if end <= from {
             return from;
         }
-        if told.bytes.has_one() {
+        if told.bytes.only().is_some() {
             return told.next_far(haystack, from, end);
         }
         if told.is_costly(haystack, from) {

@@ -92,15 +92,6 @@ fn others(bytes: &ByteSet) -> ByteSet {
     others
 }
 
-/// The set of one byte.
-pub fn only(byte: u8) -> ByteSet
-    ensures { IsSetOf (λ b. b == byte) result }
-{
-    let mut bytes = ByteSet::new();
-    bytes.insert(byte);
-    bytes
-}
-
 /// The bytes past ASCII.
 fn wide_bytes() -> ByteSet {
     let mut bytes = ByteSet::new();
@@ -150,10 +141,10 @@ fn split_by(sets: &mut Vec<ByteSet>, bytes: &ByteSet) -> Result<(), AllocError> 
 /// The same by what an assertion tests before a position.
 fn split_by_assertion(sets: &mut Vec<ByteSet>, assertion: Assertion) -> Result<(), AllocError> {
     match assertion {
-        Assertion::LineStart => split_by(sets, &only(b'\n')),
+        Assertion::LineStart => split_by(sets, &ByteSet::of(b'\n')),
         Assertion::LineStartCrlf => {
-            split_by(sets, &only(b'\n'))?;
-            split_by(sets, &only(b'\r'))
+            split_by(sets, &ByteSet::of(b'\n'))?;
+            split_by(sets, &ByteSet::of(b'\r'))
         }
         Assertion::WordBoundary
         | Assertion::NotWordBoundary
@@ -186,7 +177,7 @@ fn split_by_ends(
                 return split_by_ends(sets, code, *next, deep);
             }
             if (*character as u32) < 0x80 {
-                split_by(sets, &only(*character as u8))
+                split_by(sets, &ByteSet::of(*character as u8))
             } else {
                 split_by(sets, &wide_bytes())
             }

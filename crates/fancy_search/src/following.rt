@@ -77,7 +77,7 @@ fn has_wide_loop(code: &Code) -> bool {
 fn starts_differ(prefilter: &Prefilter) -> bool {
     match &prefilter.starts {
         None => true,
-        Some(scan) => !scan.has_one(),
+        Some(scan) => scan.only().is_none(),
     }
 }
 

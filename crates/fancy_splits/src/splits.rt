@@ -14,7 +14,6 @@ use fancy_bytes::byte_set::ByteSet;
 use fancy_code::code::{Code, Instr};
 use fancy_prices::facts::Facts;
 use fancy_prices::free::is_free;
-use fancy_prices::kinds::only;
 use fancy_tree::char_set::CharSet;
 use fancy_tree::tree::Meaning;
 use std::alloc::{AllocError, Global};
@@ -117,7 +116,7 @@ fn bytes_of_character(character: char, meaning: Meaning) -> ByteSet
 {
     let code = character as u32;
     if code < 256 && is_alone(meaning, code as u8) {
-        return only(code as u8);
+        return ByteSet::of(code as u8);
     }
     ByteSet::new()
 }
@@ -189,7 +188,7 @@ pub(crate) fn reader_at(code: &Code, at: usize, back: usize) -> Reader
         Instr::Member(set, next) if *next == back => {
             Reader::alone(bytes_of_set(code.set(*set), code.meaning))
         }
-        Instr::RawByte(byte, next) if *next == back => Reader::alone(only(*byte)),
+        Instr::RawByte(byte, next) if *next == back => Reader::alone(ByteSet::of(*byte)),
         _ => Reader::none(),
     }
 }

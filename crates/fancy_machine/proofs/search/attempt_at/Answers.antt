@@ -18,7 +18,7 @@ returns g c =
 
 pub returns-in_err-count_returns : goal.returns-in_err-count_returns
 returns-in_err-count_returns g c =
-    let costs = costs_asked g.q c.args.asked.now.code.now c.args.asked.now.options.now c.args.haystack.now c.args.asked.now.request c.args.asked.now.continues c.requires.0.query c.requires.0.code (λ k. omega (arith, c.type_inv.haystack k)) c.requires.0.inside (is_entry c.args.asked.now.prices.now.entries) c.requires.0.prices.entries c.args.position c.in-Some.price c.in-Some.ensures in
+    let costs = costs_asked g.q c.args.asked.now.code.now c.args.asked.now.options.now c.args.haystack.now c.args.asked.now.request c.args.asked.now.continues c.requires.0.query c.requires.0.code (λ k. omega (arith, c.type_inv.haystack k)) c.requires.0.inside (is_entry c.args.asked.now.prices.now.entries) c.requires.0.prices.entries c.args.position c.in-Some.price c.in-Some.ensures.told in
     answers_err c.from_residual.result _ c.from_residual.ensures.1 (omega (arith, c.count_returns.ensures.adds.most, costs.returns))
     (λ is. let lt = c.in_err-count_returns.ensures.refused (ap Err is) in omega (arith, lt, c.returns.ensures, costs.returns))
     (λ is. absurd (c.in_err-count_returns.ensures.saved (ap Err is)))
@@ -28,6 +28,6 @@ returns-in_err-count_returns g c =
 
 pub returns-in-Some : goal.returns-in-Some
 returns-in-Some g c =
-    let costs = costs_asked g.q c.args.asked.now.code.now c.args.asked.now.options.now c.args.haystack.now c.args.asked.now.request c.args.asked.now.continues c.requires.0.query c.requires.0.code (λ k. omega (arith, c.type_inv.haystack k)) c.requires.0.inside (is_entry c.args.asked.now.prices.now.entries) c.requires.0.prices.entries c.args.position c.in-Some.price c.in-Some.ensures in
+    let costs = costs_asked g.q c.args.asked.now.code.now c.args.asked.now.options.now c.args.haystack.now c.args.asked.now.request c.args.asked.now.continues c.requires.0.query c.requires.0.code (λ k. omega (arith, c.type_inv.haystack k)) c.requires.0.inside (is_entry c.args.asked.now.prices.now.entries) c.requires.0.prices.entries c.args.position c.in-Some.price c.in-Some.ensures.told in
     answers_ok (sym (missed_here g.q c.args.position costs.none)) (omega (arith, c.in_ok-count_returns.ensures.counted, costs.returns)) (omega arith) (keeps_returns _ c.count_returns.ensures.adds)
     (limits_of (λ e. absurd (cc)) (rw c.returns.ensures at c.count_returns.ensures.fits) c.count_returns.ensures.within (λ e. absurd (cc)))

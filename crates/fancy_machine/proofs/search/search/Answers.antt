@@ -58,7 +58,7 @@ pass_priced-requires g c =
     let k = is_asked g.q g.q.sought.pattern c.args.asked.now.code.now c.args.asked.now.options.now c.args.haystack.now c.args.asked.now.request c.args.asked.now.continues c.requires.0.query c.new-attempt.result c.new-attempt.ensures.code c.new-attempt.ensures.serves c.requires.0.code c.requires.0.inside c.loop-place.place (omega (arith, c.last_position-last.ensures.inside)) in
     let bytes = subst (λ (h : List ℕ). (k : ℕ) → slice_index h k < 256) (sym c.new-attempt.ensures.haystack) (λ k. omega (arith, c.type_inv.haystack k)) in
     let entries = subst (AreEntries (is_entry c.args.asked.now.prices.now.entries)) (sym c.new-attempt.ensures.code) c.requires.0.prices.entries in
-    let told = subst (λ (h : List ℕ). IsToldAt (is_entry c.args.asked.now.prices.now.entries) h c.args.asked.now.request.range_end c.loop-place.place c.in-Some.price) (sym c.new-attempt.ensures.haystack) c.in-Some.ensures in
+    let told = subst (λ (h : List ℕ). IsToldAt (is_entry c.args.asked.now.prices.now.entries) h c.args.asked.now.request.range_end c.loop-place.place c.in-Some.price) (sym c.new-attempt.ensures.haystack) c.in-Some.ensures.told in
     let tries = c.loop-place.invariant.tries (omega (arith, c.loop-place-test.true)) in
     (k, (sym c.new-attempt.ensures.haystack, ((omega (arith, c.loop-place-test.true), omega (arith, c.last_position-last.ensures.inside)), ((λ e. subst (λ (b : Bool). tried b g.q c.loop-place.place ≡ true) e tries), (omega (arith, c.returns.ensures, c.loop-place.invariant.fits), (entries, (bytes, told)))))))
 

@@ -33,8 +33,8 @@ returns-in-Member-clause-ends c is =
 pub returns-in-RawByte-clause-reads : goal.returns-in-RawByte-clause-reads
 returns-in-RawByte-clause-reads c =
     subst (λ (s : ByteFlags). ReadsEach (instrs_of c.args.code.now) c.args.code.now.meaning s c.args.at c.args.back) (sym c.alone-in-RawByte.ensures.items)
-    (each_raw_byte (instrs_of c.args.code.now) c.args.code.now.meaning c.only.result c.args.at c.args.back c.in-RawByte.byte
-    (sym c.instr.ensures.instr ∙ ap (instr_in c.args.code.now) c.in-RawByte.is ∙ ap (RawByte c.in-RawByte.byte) c.if-next-back-3.true) c.only.ensures)
+    (each_raw_byte (instrs_of c.args.code.now) c.args.code.now.meaning c.of.result c.args.at c.args.back c.in-RawByte.byte
+    (sym c.instr.ensures.instr ∙ ap (instr_in c.args.code.now) c.in-RawByte.is ∙ ap (RawByte c.in-RawByte.byte) c.if-next-back-3.true) c.of.ensures)
 
 pub returns-in-RawByte-clause-ends : goal.returns-in-RawByte-clause-ends
 returns-in-RawByte-clause-ends c is =

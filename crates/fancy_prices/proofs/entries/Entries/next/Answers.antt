@@ -11,7 +11,7 @@ returns c =
     (passed_one c.in-Some.told.now c.args.haystack.now c.args.from c.args.from (λ k low high. absurd (omega (arith, low, high))) (sym c.is_costly.ensures ∙ c.if-is_costly.false))
     c.next_ahead.ensures)
 
-pub returns-then-has_one : goal.returns-then-has_one
-returns-then-has_one c =
+pub returns-then-is_some : goal.returns-then-is_some
+returns-then-is_some c =
     next_entry c.in-Some.told.now c.args.haystack.now (unboxed c.args.self.now.told) c.in-Some.ensures c.args.range_end c.args.from c.args.last c.min-end.result c.next_far.result
     (omega (arith, c.min-end.ensures)) (omega (arith, c.min-end.ensures)) c.next_far.ensures
