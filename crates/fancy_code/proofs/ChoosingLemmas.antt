@@ -1,12 +1,13 @@
 -- Ways of a choice that begin among some bytes.
-use Rattle.std.proofs.Common.{◌≡◌, ℕ, ◌<◌, ◌==◌, true, false, List, [], ◌∷◌, length, Option, Some, None, refl, sym, ap, ◌∙◌, subst, arith, true≢false}
+use Rattle.std.proofs.Common.{◌≡◌, ℕ, ◌<◌, ◌==◌, Bool, true, false, inl, inr, if◌then◌else◌, eq-eqb, List, [], ◌∷◌, length, Option, Some, None, refl, sym, ap, ◌∙◌, subst, arith, true≢false}
 use Rattle.std.specs.Prelude.{slice_index, slice_index_or}
 use Rattle.fancy_tree.specs.declared.tree.Meaning.{Meaning}
+use Rattle.std.proofs.lemmas.Bool.Decides.{eqb_tells}
 use Rattle.fancy_bytes.specs.Sets.{ByteFlags, member}
 use Rattle.fancy_prefilter.specs.Windows.{StandsFrom, set_at}
-use Rattle.fancy_code.specs.Choices.{has_stop, stops, BeginsAmong}
+use Rattle.fancy_code.specs.Choices.{has_stop, stops, BeginsAmong, way_beside}
 use Rattle.fancy_code.specs.Foretold.{Foretold}
-use Rattle.fancy_code.specs.Instructions.{Instruction}
+use Rattle.fancy_code.specs.Instructions.{Instruction, Split}
 use Rattle.fancy_code.specs.Run.{Raw, Note, Stop, AllStops, Foretells, run}
 
 -- no way stops where that would say what does not hold
@@ -15,7 +16,7 @@ never_stops P never [] h = refl
 never_stops P never (Note m ∷ w) h = never_stops P never w h
 never_stops P never (Stop q s v ∷ w) h = absurd (never h.0)
 
-none_foretold : (P : Type 0) → ¬ P → (o : Option (List Raw)) → Foretells P o → stops o ≡ false
+pub none_foretold : (P : Type 0) → ¬ P → (o : Option (List Raw)) → Foretells P o → stops o ≡ false
 none_foretold P never None h = refl
 none_foretold P never (Some w) h = never_stops P never w h
 
@@ -37,3 +38,17 @@ some_sets (s ∷ sets) n e h = omega arith
 pub first_default : (sets : List ByteFlags) (d e : ByteFlags) → 0 < length sets → slice_index_or sets 0 d ≡ slice_index_or sets 0 e
 first_default [] d e some = absurd (omega (arith, some))
 first_default (s ∷ sets) d e some = refl
+
+-- the way beside each of the two
+pub beside_first : (i : Instruction) (a b : ℕ) → i ≡ Split a b → way_beside i a ≡ Some b
+beside_first i a b is =
+    ap (λ (j : Instruction). way_beside j a) is ∙ ap (λ (t : Bool). if t then (Some b) else (if b == a then (Some a) else None)) (eq-eqb a a refl)
+
+pub beside_second : (i : Instruction) (a b : ℕ) → i ≡ Split a b → way_beside i b ≡ Some a
+beside_second i a b is =
+    elim (eqb_tells a b) [
+      | inl same ↦ ap (λ (j : Instruction). way_beside j b) is ∙ ap (λ (t : Bool). if t then (Some b) else (if b == b then (Some a) else None)) same.0 ∙ ap Some (sym same.1)
+      | inr other ↦
+          ap (λ (j : Instruction). way_beside j b) is ∙ ap (λ (t : Bool). if t then (Some b) else (if b == b then (Some a) else None)) other.0
+          ∙ ap (λ (t : Bool). if t then (Some a) else None) (eq-eqb b b refl)
+    ]

@@ -14,11 +14,13 @@ pub mod EasyContinues
 pub mod PositionLemmas
 pub mod CodeLemmas
 pub mod InstructionLemmas
+pub mod ItemLemmas
 pub mod CompileLemmas
 pub mod StartLemmas
 pub mod TriedLemmas
 pub mod PassedLemmas
 pub mod ForetoldLemmas
 pub mod ChoosingLemmas
+pub mod EndLemmas
 pub mod TextLemmas
 pub mod BranchingLemmas

@@ -1,5 +1,5 @@
 -- Which bytes stand at the first places of what code consumes from an instruction on.
-use Rattle.std.specs.Prelude.{◌≡◌, ℕ, ◌+◌, ◌<◌, ◌≤◌, Bool, true, false, List, length, Some, slice_get, slice_index}
+use Rattle.std.specs.Prelude.{◌≡◌, ℕ, ◌+◌, ◌<◌, ◌≤◌, ◌==◌, ◌||◌, Bool, true, false, List, length, Some, slice_get, slice_index}
 use Rattle.std.specs.Global.{Vec}
 use Rattle.fancy_tree.specs.declared.tree.Assertion.{Assertion}
 use Rattle.fancy_tree.specs.declared.tree.Assertion.TheVariants.{LineStart}
@@ -36,6 +36,18 @@ AreForetold sets code =
 -- The code goes on from an instruction only where an assertion holds: at no other place does a way stop from there.
 abbrev pub IsAnchored : List Instruction → Assertion → ℕ → Type 0
 IsAnchored code anchor at = (x : Context) (limit n : ℕ) (s : State) (v : List ℕ) → holds x anchor s.place ≡ false → Foretells ⊥ (run x limit code n at s v)
+
+-- what may stand where a line or the text ends: its line end, or nothing, for which the byte 0 stands
+abbrev pub is_at_end : ℕ → Bool
+is_at_end b = (b == 0) || ((b == 10) || (b == 13))
+
+-- the assertion holds at ends of lines and of the text alone
+abbrev pub HoldsAtEnds : Assertion → Type 0
+HoldsAtEnds a = (x : Context) (p : ℕ) → is_at_end (slice_index x.haystack p) ≡ false → holds x a p ≡ false
+
+-- the code goes on from q at ends of lines and of the text alone
+abbrev pub GoesOnAtEnds : List Instruction → ℕ → Type 0
+GoesOnAtEnds code q = (a : Assertion) × HoldsAtEnds a × IsAnchored code a q
 
 -- the code goes on from an instruction at line starts alone, and the set has line feeds
 abbrev pub StartsLines : ByteFlags → List Instruction → ℕ → Type 0

@@ -4,6 +4,7 @@ pub mod CodeLength
 pub mod Code
 pub mod Emitted
 pub mod Run
+pub mod Items
 pub mod Choices
 pub mod Texts
 pub mod Thread

@@ -1,6 +1,6 @@
 //! The code of a pattern: instructions that say where they go on.
 
-ghost use Rattle.std.specs.Prelude.{◌≡◌, ◌<◌, ℕ, None, IfOk, IsTrue, length};
+ghost use Rattle.std.specs.Prelude.{◌≡◌, ◌<◌, ℕ, None, IfOk, IsTrue, length, slice_index};
 ghost use Rattle.std.specs.Option.{ForSome};
 ghost use Rattle.fancy_prefilter.specs.Prefilters.{branches_in};
 ghost use Rattle.fancy_code.specs.Branches.{ArePaid};
@@ -10,7 +10,7 @@ ghost use Rattle.fancy_code.specs.Marking.{IsPaid};
 
 use crate::marking::Marking;
 use fancy_input::work::Work;
-use fancy_prefilter::choice::{Beginnings, Choice};
+use fancy_prefilter::choice::{Beginnings, Choice, ItemLoop};
 use fancy_prefilter::prefilter::Prefilter;
 use fancy_tree::char_set::CharSet;
 use fancy_tree::tree::{Assertion, Meaning};
@@ -120,7 +120,7 @@ pub struct Code {
 
 impl Code {
     ghost use Rattle.std.specs.Prelude.{IfSome};
-    ghost use Rattle.fancy_code.specs.Choices.{LeavesOut};
+    ghost use Rattle.fancy_code.specs.Choices.{GoesRound, LeavesOut};
     ghost use Rattle.fancy_code.specs.Code.{IsMadeOf, instrs_of, instr_in, sets_len, set_edges, due_of, number_of, width_of};
     ghost use Rattle.fancy_code.specs.CodeLength.{code_len};
     ghost use Rattle.fancy_code.specs.Instructions.{Split};
@@ -187,6 +187,21 @@ impl Code {
             return Choice::Both;
         };
         beginnings.choice(*byte)
+    }
+
+    /// The loop of one item that the choice with this number goes round, if the byte that stands at a place of a haystack tells that.
+    #[inline(always)]
+    pub fn item_loop_at(&self, at: usize, haystack: &[u8], place: usize) -> Option<&ItemLoop>
+        ensures round { IfSome result (λ l. GoesRound (instrs_of self.now) self.now.meaning l.now at) }
+        ensures bytes { (k : ℕ) → slice_index haystack.now k < 256 }
+    {
+        let item_loop = self.beginnings.get(at)?.item_loop.as_ref()?;
+        let byte = haystack.get(place)?;
+        if item_loop.bytes.contains(*byte) {
+            Some(item_loop)
+        } else {
+            None
+        }
     }
 
     /// The instruction with this number. Each call counts as one step, as far as the number of steps goes.

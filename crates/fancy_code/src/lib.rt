@@ -9,6 +9,7 @@ pub mod code;
 pub mod compile;
 mod emitter;
 pub mod found;
+pub mod items;
 mod marking;
 mod prefilter;
 pub mod slot;

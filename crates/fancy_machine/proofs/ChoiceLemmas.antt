@@ -15,7 +15,8 @@ use Rattle.fancy_splits.specs.declared.choices.Onward.{Onward}
 use Rattle.fancy_splits.specs.declared.choices.Onward.TheVariants.{Ends, Goes, Reads}
 use Rattle.fancy_splits.specs.declared.choices.Passage.{Passage}
 use Rattle.fancy_splits.specs.declared.choices.ToldChoice.{ToldChoice}
-use Rattle.fancy_splits.specs.Splits.{IsToldChoice, Leads, LeadsOut, LeadsTo, Passes, ReadsByte, ways_of}
+use Rattle.fancy_code.specs.Items.{ReadsByte}
+use Rattle.fancy_splits.specs.Splits.{IsToldChoice, Leads, LeadsOut, LeadsTo, Passes, ways_of}
 use Rattle.fancy_machine.specs.declared.attempt.Attempt.{Attempt}
 use Rattle.fancy_machine.specs.Attempt.{attempt_context, accepts, code_in, Seeks, SeeksBack, Advanced, size_ahead}
 use Rattle.fancy_machine.specs.Choices.{IsTaken, saved_ways}

@@ -14,7 +14,8 @@ use Rattle.fancy_code.proofs.RunMore.{run_more}
 use Rattle.fancy_splits.specs.declared.splits.ToldSplit.{ToldSplit}
 use Rattle.fancy_splits.specs.declared.splits.Splits.{Splits}
 use Rattle.fancy_splits.specs.declared.splits.ToldPart.TheVariants.{Loop}
-use Rattle.fancy_splits.specs.Splits.{AreApart, DiesPast, IsToldSplit, IsNoted, PassesOver, ReadsByte, byte_alone}
+use Rattle.fancy_code.specs.Items.{ReadsByte}
+use Rattle.fancy_splits.specs.Splits.{AreApart, DiesPast, IsToldSplit, IsNoted, PassesOver, byte_alone}
 use Rattle.fancy_prices.specs.Prices.{Costs, MissesIn, Dies}
 use Rattle.fancy_code.specs.Code.{instrs_of}
 use Rattle.fancy_machine.specs.declared.attempt.Attempt.{Attempt}

@@ -16,6 +16,15 @@ pub enum Choice {
     Second,
 }
 
+/// A loop of one item: a choice of which one way reads the item, and leads back to the choice.
+#[derive(Drop)]
+pub struct ItemLoop {
+    /// The instruction that reads the item.
+    pub item: usize,
+    /// The bytes that are such an item alone, and with which the other way does not begin.
+    pub bytes: ByteSet,
+}
+
 /// The bytes that the two ways of a choice may begin with: all bytes, where it is not told which.
 #[derive(Drop)]
 pub struct Beginnings {
@@ -23,6 +32,8 @@ pub struct Beginnings {
     pub first: ByteSet,
     /// Those of the other.
     pub second: ByteSet,
+    /// The loop of one item that the choice goes round, if it does.
+    pub item_loop: Option<ItemLoop>,
 }
 
 impl Beginnings {

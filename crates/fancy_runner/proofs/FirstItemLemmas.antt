@@ -1,5 +1,5 @@
 -- Positions of which the first item tells that attempts there find nothing.
-use Rattle.std.proofs.Common.{◌≡◌, ℕ, ◌+◌, ◌-◌, ◌<◌, ◌≤◌, Bool, true, false, List, [], ◌∷◌, length, Option, Some, None, refl, sym, ap, ◌∙◌, subst, inl, inr, arith}
+use Rattle.std.proofs.Common.{◌≡◌, ℕ, ◌+◌, ◌-◌, ◌<◌, ◌≤◌, Bool, true, false, List, [], length, Option, Some, None, refl, sym, ap, ◌∙◌, inl, inr, arith}
 use Rattle.std.specs.Prelude.{is_some}
 use Rattle.std.proofs.Common.{Bor}
 use Rattle.fancy_tree.specs.Pattern.{Pattern}
@@ -26,7 +26,7 @@ use Rattle.fancy_code.specs.declared.attempt.Attempt.{Attempt}
 use Rattle.fancy_code.specs.declared.step.Next.TheVariants.{On}
 use Rattle.fancy_meaning.specs.Context.{State, past_item}
 use Rattle.fancy_runner.specs.declared.first_item.FirstItem.{FirstItem}
-use Rattle.fancy_runner.specs.Attempt.{begins_in, begins_with, first_accepted_in, marks_in, AllFailedIn, KnownIn}
+use Rattle.fancy_runner.specs.Attempt.{begins_with, marks_in, AllFailedIn}
 use Rattle.fancy_runner.specs.FirstItem.{OpensWith, FindsNone}
 use Rattle.fancy_runner.specs.Runner.{Stepped}
 use Rattle.fancy_runner.proofs.BranchLemmas.{opened_on}

@@ -11,6 +11,8 @@ pub mod SweepsLemmas
 pub mod KeptTableLemmas
 pub mod LimitLemmas
 pub mod RunLemmas
+pub mod WentOnLemmas
 pub mod ChoiceLemmas
+pub mod LoopLemmas
 pub mod BranchLemmas
 pub mod FirstItemLemmas

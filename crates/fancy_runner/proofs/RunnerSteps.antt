@@ -1,9 +1,10 @@
 -- One step along a thread.
 use Rattle.std.proofs.Common.{◌≡◌, ℕ, ◌+◌, ◌<◌, Bool, true, false, List, [], ◌∷◌, ◌++◌, length, Option, Some, None, refl, sym, ap, ap₂, ◌∙◌, subst, inl, arith, length-append}
-use Rattle.std.specs.Prelude.{slice_index, slice_set, if◌then◌else◌}
+use Rattle.std.specs.Prelude.{slice_get, slice_index, slice_set, if◌then◌else◌}
 use Rattle.std.proofs.lemmas.Bool.{le-leb, lt-leb}
 use Rattle.fancy_tree.specs.declared.tree.Assertion.{Assertion}
 use Rattle.fancy_code.specs.Instructions.{Instruction, Match, Fail, Assert, Split, Open, Close}
+use Rattle.fancy_code.specs.Items.{ReadsByte}
 use Rattle.fancy_code.specs.declared.step.Next.{Next}
 use Rattle.fancy_code.specs.declared.step.Next.TheVariants.{On, Dead, Found}
 use Rattle.fancy_meaning.specs.Context.{Context, State, moved_to, with_capture, holds}
@@ -111,6 +112,12 @@ module _ (x : Context) (limit : ℕ) (code : List Instruction) (deep kept : ℕ)
   tested Dead true a q new ts e h m = absurd m
   tested Dead false a q new ts e h m = (refuted a q e (sym h), refl)
   tested Found held a q new ts e h m = absurd m
+
+  -- an item of one byte was read
+  pub read_byte : (b q : ℕ) → ReadsByte code x.meaning b t.at q → slice_get x.haystack t.place ≡ Some b → t.place < limit → Went x limit code deep kept t (record t { at = q; place = t.place + 1 })
+  read_byte b q reads stands within =
+      goes (record t { at = q; place = t.place + 1 }) q (moved_to (state_of kept t) (t.place + 1)) (starts_of t)
+      (acts (instr_at code t.at) refl ∙ reads x limit deep (state_of kept t) (starts_of t) refl stands within) refl refl refl
 
   pub opened : (g next : ℕ) (u : Thread) → instr_at code t.at ≡ Open g next
       → u.at ≡ next → state_of kept u ≡ state_of kept t → starts_of u ≡ slice_set (starts_of t) g t.place → Went x limit code deep kept t u

@@ -4,16 +4,20 @@ use Rattle.fancy_input.specs.LastLines.{KnowsLastLines}
 use Rattle.fancy_code.specs.declared.attempt.Attempt.{Attempt}
 use Rattle.fancy_code.specs.declared.slot.Slot.{Slot}
 use Rattle.fancy_input.specs.declared.work.Work.{Work}
-use Rattle.fancy_code.specs.Attempt.{instrs_in}
+use Rattle.fancy_code.specs.Attempt.{context_in, instrs_in, may_end_in}
+use Rattle.fancy_code.specs.Code.{cost_of, due_of}
 use Rattle.fancy_code.specs.Compile.{AreEasy}
+use Rattle.fancy_code.specs.Run.{instr_at}
+use Rattle.fancy_meaning.specs.Context.{State}
 use Rattle.fancy_input.specs.Work.{steps_of, returns_of, RunsWithin, IsSpent}
 use Rattle.fancy_runner.specs.declared.notes.Notes.{Notes}
 use Rattle.fancy_runner.specs.declared.refusal.RunnerRefusal.{RunnerRefusal}
 use Rattle.fancy_runner.specs.declared.refusal.RunnerRefusal.TheVariants.{Steps}
-use Rattle.fancy_runner.specs.Attempt.{saved_in, bits_in, owed_in, KnownIn, AllFailedIn, FailedPastIn, first_accepted_in}
-use Rattle.fancy_runner.specs.Runner.{found_state, AllWithin, Grown}
-use Rattle.fancy_code.specs.Thread.{Thread}
-use Rattle.fancy_runner.specs.Threads.{ThreadStack, KeptThreads}
+use Rattle.fancy_runner.specs.Attempt.{saved_in, bits_in, marks_in, owed_in, KnownIn, AllFailedIn, FailedPastIn, first_accepted_in}
+use Rattle.fancy_runner.specs.declared.pair.Pair.{Pair}
+use Rattle.fancy_runner.specs.Runner.{found_state, AllWithin, Grown, Running, Went}
+use Rattle.fancy_code.specs.Thread.{Thread, Known}
+use Rattle.fancy_runner.specs.Threads.{ThreadStack, KeptThreads, thread_of}
 
 -- the table has the marks of the place
 pub record HasRow (a : Attempt) (place : ℕ) (table : List Bool) : Type 0 where
@@ -69,6 +73,31 @@ pub record Ran {T : Type 0} (a : Attempt) (due : ℕ) (result : Result T RunnerR
   pub worked : Worked a old new before after
   pub paid : steps_of after + owed_in a new.table ≤ steps_of before + (due + owed_in a old.table)
   pub limited : result ≡ Err Steps → IsSpent a.step_limit after
+
+-- From a pair a thread goes on to the next one alone, whatever its groups are, at the same place or the next, which is searched. What is due there
+-- is paid.
+pub record GoesOn (a : Attempt) (old next : Pair) : Type 0 where
+  pub went : (kept deep : ℕ) (slots : List Slot) → Known (context_in a) a.last (instrs_in a) deep kept (thread_of old slots)
+      → Went (context_in a) a.last (instrs_in a) deep kept (thread_of old slots) (thread_of next slots)
+  pub forth : old.place ≤ next.place
+  pub near : next.place ≤ old.place + 1
+  pub high : next.place ≤ a.last
+  pub paid : due_of a.code.now next.at ≤ cost_of a.code.now (instr_at (instrs_in a) old.at)
+
+-- The thread that is followed went on from one pair to another, and nothing was saved. What is still to be followed has the same answer. At most
+-- so many steps were taken as were due, and as the marks are worth that were made, at least one for each byte, and the limit was heeded.
+pub record WentOn (a : Attempt) (old new : Pair) (before after : List Bool) (first last : Work) : Type 0 where
+  pub running : (low kept deep : ℕ) (goal : Option State) (slots : List Slot) (saved : List Thread) → a.base ≤ low
+      → Running (may_end_in a) (context_in a) low a.last (instrs_in a) deep kept goal (marks_in a before) (thread_of old slots) saved
+      → Running (may_end_in a) (context_in a) low a.last (instrs_in a) deep kept goal (marks_in a after) (thread_of new slots) saved
+  pub forth : old.place ≤ new.place
+  pub high : old.place ≤ a.last → new.place ≤ a.last
+  pub room : length after ≡ length before
+  pub spent : steps_of last + (due_of a.code.now new.at + owed_in a after) ≤ steps_of first + (due_of a.code.now old.at + owed_in a before)
+  pub steps : steps_of first ≤ steps_of last
+  pub counted : steps_of last < 2 ^ 64 - 1 → steps_of first + (new.place - old.place) ≤ steps_of last
+  pub returns : returns_of last ≡ returns_of first
+  pub heeds : RunsWithin a.step_limit first last
 
 -- an outcome ends at the place or past it, in what is searched
 abbrev pub EndsIn : Attempt → ℕ → Option ℕ → Type 0

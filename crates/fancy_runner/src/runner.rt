@@ -1,7 +1,8 @@
 //! The runner, which follows each pair of an instruction with a mark and a place at most once.
 
-ghost use Rattle.std.specs.Prelude.{◌≡◌, ◌+◌, ◌-◌, ◌^◌, ◌<◌, ◌≤◌, ◌≢◌, ◌⊎◌, ◌++◌, ℕ, List, Option, None, Err, true, false, length, IfOk, IfSome};
+ghost use Rattle.std.specs.Prelude.{◌≡◌, ◌+◌, ◌-◌, ◌^◌, ◌<◌, ◌≤◌, ◌≢◌, ◌⊎◌, ◌++◌, ℕ, List, Option, None, Err, true, false, length, slice_index, IfOk, IfSome};
 ghost use Rattle.fancy_meaning.specs.Context.{State, holds};
+ghost use Rattle.fancy_code.specs.Choices.{GoesRound};
 ghost use Rattle.fancy_code.specs.Code.{weight_of, due_of, cost_of, marks_of};
 ghost use Rattle.fancy_runner.specs.Runner.{burden, found_state, Stacked, Grown, Moved, Tested, GoesTo, AllWithin, Spends, Progresses};
 ghost use Rattle.fancy_code.specs.CodeLength.{code_len};
@@ -13,7 +14,7 @@ ghost use Rattle.fancy_code.specs.declared.slot.Slot.{Slot};
 ghost use Rattle.fancy_code.specs.Thread.{Thread};
 ghost use Rattle.fancy_runner.specs.Threads.{thread_of, begun_at, AreFresh};
 ghost use Rattle.fancy_runner.specs.Sweep.{AllPast, SweepingIn, SweptIn};
-ghost use Rattle.fancy_runner.specs.Runs.{HasRow, IsReadyFor, IsReadyAt, Saves, Ran, AnswersIn, LeavesIn, Attempted};
+ghost use Rattle.fancy_runner.specs.Runs.{HasRow, IsReadyFor, IsReadyAt, Saves, Ran, AnswersIn, LeavesIn, Attempted, GoesOn, WentOn};
 ghost use Rattle.fancy_code.specs.Attempt.{context_in, instrs_in};
 ghost use Rattle.fancy_runner.specs.Attempt.{stack_in, current_in, saved_in, threads_in, threads_left_in, bits_in, owed_in, ahead_in, marks_in, KnownIn, AllFailedIn, FailedPastIn, first_accepted_in, SteppedIn, RunningIn, VisitedIn};
 
@@ -30,7 +31,7 @@ use fancy_input::last_lines::LastLines;
 use fancy_input::work::Work;
 use fancy_meaning::options::is_match_boundary;
 use fancy_meaning::reading::holds_at;
-use fancy_prefilter::choice::Choice;
+use fancy_prefilter::choice::{Choice, ItemLoop};
 use fancy_tree::tree::Assertion;
 use std::alloc::AllocError;
 
@@ -254,6 +255,96 @@ pub(crate) fn visit(
     }
 }
 
+/// Goes from a pair to the next one, where the step to that is told, if it is new and the limit is not spent. Returns whether it did.
+#[inline(always)]
+fn move_on(
+    attempt: &Attempt,
+    pair: &mut Pair,
+    next: Pair,
+    table: &mut Table,
+    work: &mut Work,
+) -> bool
+    requires easy { AreEasy (instrs_in attempt.now) }
+    requires here { pair.old.at < code_len attempt.now.code.now }
+    requires row { HasRow attempt.now pair.old.place table.old }
+    requires goes { GoesOn attempt.now pair.old next }
+    ensures moved { result ≡ true → pair.new ≡ next }
+    ensures went { WentOn attempt.now pair.old pair.new table.old table.new work.old work.new }
+{
+    if work.is_spent(attempt.step_limit) || !is_new(attempt, *pair, table) {
+        return false;
+    }
+    work.count_step_within();
+    *pair = next;
+    true
+}
+
+/// Goes round a loop of one item from a pair at its choice, as long as the bytes tell that the item alone goes on, the pairs are new,
+/// and the limit is not spent. Returns where the thread stands then.
+#[inline(never)]
+fn go_round(
+    attempt: &Attempt,
+    item_loop: &ItemLoop,
+    start: Pair,
+    table: &mut Table,
+    work: &mut Work,
+) -> Pair
+    requires inside { attempt.now.last ≤ length attempt.now.haystack.now }
+    requires easy { AreEasy (instrs_in attempt.now) }
+    requires row { HasRow attempt.now start.place table.old }
+    requires bytes { (k : ℕ) → slice_index attempt.now.haystack.now k < 256 }
+    requires round { GoesRound (instrs_in attempt.now) attempt.now.code.now.meaning item_loop.now
+        start.at }
+    ensures { WentOn attempt.now start result table.old table.new work.old work.new }
+{
+    let mut pair = start;
+    'items: while pair.place < attempt.last
+        && item_loop.bytes.contains(attempt.haystack[pair.place])
+    {
+        let place = pair.place;
+        let item = Pair {
+            at: item_loop.item,
+            place,
+        };
+        if !move_on(attempt, &mut pair, item, table, work) {
+            return pair;
+        }
+        let back = Pair {
+            at: start.at,
+            place: place + 1,
+        };
+        if !move_on(attempt, &mut pair, back, table, work) {
+            return pair;
+        }
+    }
+    pair
+}
+
+/// Reads the items of a loop of one item, if a pair is at its choice, has read an item from a place on, and the byte there tells that
+/// the loop goes on. Returns where the thread stands then.
+#[inline(always)]
+fn read_items(
+    attempt: &Attempt,
+    from: usize,
+    pair: Pair,
+    table: &mut Table,
+    work: &mut Work,
+) -> Pair
+    requires inside { attempt.now.last ≤ length attempt.now.haystack.now }
+    requires easy { AreEasy (instrs_in attempt.now) }
+    requires row { HasRow attempt.now pair.place table.old }
+    ensures { WentOn attempt.now pair result table.old table.new work.old work.new }
+{
+    if pair.place <= from {
+        return pair;
+    }
+    let code = attempt.code;
+    match code.item_loop_at(pair.at, attempt.haystack, pair.place) {
+        Some(item_loop) => go_round(attempt, item_loop, pair, table, work),
+        None => pair,
+    }
+}
+
 /// The place of the first accepted outcome of one attempt, which begins at `start`; its slots then stand in `threads`. The
 /// table is kept from the attempts before: what they marked from the start's place on gives nothing. Where an outcome is
 /// found, what is marked past it gives nothing, whatever the groups, so that a later search can keep that. There are at most
@@ -280,12 +371,14 @@ pub fn follow(
 {
     let mut pair = start;
     'pairs: loop {
+        let place = pair.place;
         match visit(attempt, &mut pair, threads, notes, work)? {
             Next::On => {
-                if threads.is_long() {
+                if pair.place > place && threads.is_long() {
                     let end = follow_by_place(attempt, pair, threads, notes, work)?;
                     return Ok(end);
                 }
+                pair = read_items(attempt, place, pair, &mut notes.table, work);
             }
             Next::Dead => match threads.back(attempt.code, work) {
                 Some(branch) => pair = branch,

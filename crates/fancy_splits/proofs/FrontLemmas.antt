@@ -11,7 +11,8 @@ use Rattle.fancy_splits.specs.declared.splits.ToldSplit.{ToldSplit}
 use Rattle.fancy_splits.specs.declared.splits.Splits.{Splits}
 use Rattle.fancy_splits.specs.declared.splits.ToldPart.TheVariants.{Loop}
 use Rattle.fancy_prices.specs.Prices.{Costs, Dies}
-use Rattle.fancy_splits.specs.Splits.{IsNoted, ReadsByte, ReadsEach, byte_alone}
+use Rattle.fancy_code.specs.Items.{ReadsByte, ReadsEach}
+use Rattle.fancy_splits.specs.Splits.{IsNoted, byte_alone}
 use Rattle.fancy_splits.specs.Front.{DiesAtEach, Leads, LeadsBy}
 use Rattle.fancy_prices.proofs.DyingWays.{costs_same, joined, opened, read}
 

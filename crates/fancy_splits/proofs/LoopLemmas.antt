@@ -12,7 +12,9 @@ use Rattle.fancy_code.specs.Instructions.{Instruction, Character, Close, Commit,
 use Rattle.fancy_code.specs.Run.{Note, fetched, Go, act, before, instr_at, onward, run}
 use Rattle.fancy_code.proofs.ForetoldLemmas.{item_at}
 use Rattle.fancy_prices.specs.Prices.{Costs}
-use Rattle.fancy_splits.specs.Splits.{DiesPast, IsPast, ReadsEach, ReadsEachIn, StopsAt}
+use Rattle.fancy_code.specs.Items.{ReadsEach, reads_to}
+use Rattle.fancy_code.proofs.ItemLemmas.{item_of}
+use Rattle.fancy_splits.specs.Splits.{DiesPast, IsPast, ReadsEachIn, StopsAt}
 use Rattle.fancy_prices.proofs.BeginLemmas.{encoding_some}
 use Rattle.fancy_prices.proofs.DyingWays.{read}
 
@@ -59,20 +61,28 @@ module _ (code : List Instruction) (at : ℕ) where
       read 0 0 (act x limit at (instr_at code at) (run x limit code n) (run x (length x.haystack) code n) s v)
       (subst (λ (j : Instruction). Costs 0 0 (act x limit at j (run x limit code n) (run x (length x.haystack) code n) s v)) (sym is) (h x limit n s v past))
 
-  pub character_ends : (c next : ℕ) → instr_at code at ≡ Character c next → DiesPast code at
+  character_ends : (c next : ℕ) → instr_at code at ≡ Character c next → DiesPast code at
   character_ends c next is =
       dies_past_by (Character c next) is
       (λ x limit n s v past. nothing_read x limit (run x limit code n) next s v (past_item x (λ d. d == c) s.place) (item_moves x (λ d. d == c) s.place) past)
 
-  pub member_ends : (edges : List ℕ) (next : ℕ) → instr_at code at ≡ Member edges next → DiesPast code at
+  member_ends : (edges : List ℕ) (next : ℕ) → instr_at code at ≡ Member edges next → DiesPast code at
   member_ends edges next is =
       dies_past_by (Member edges next) is
       (λ x limit n s v past. nothing_read x limit (run x limit code n) next s v (past_item x (has edges) s.place) (item_moves x (has edges) s.place) past)
 
-  pub raw_byte_ends : (byte next : ℕ) → instr_at code at ≡ RawByte byte next → DiesPast code at
+  raw_byte_ends : (byte next : ℕ) → instr_at code at ≡ RawByte byte next → DiesPast code at
   raw_byte_ends byte next is =
       dies_past_by (RawByte byte next) is
       (λ x limit n s v past. nothing_read x limit (run x limit code n) next s v (past_byte x byte s.place) (byte_moves x byte s.place) past)
+
+  pub item_ends : (next : ℕ) → reads_to (instr_at code at) next ≡ true → DiesPast code at
+  item_ends next to =
+      elim (item_of (instr_at code at) next to) [
+        | inl e ↦ character_ends e.0 next e.1
+        | inr (inl e) ↦ member_ends e.0 next e.1
+        | inr (inr e) ↦ raw_byte_ends e.0 next e.1
+      ]
 
   pub open_ends : (g next : ℕ) → instr_at code at ≡ Open g next → DiesPast code next → DiesPast code at
   open_ends g next is ends = dies_past_by (Open g next) is (λ x limit n s v past. ends x limit n s (slice_set v g s.place) past)

@@ -11,7 +11,8 @@ use Rattle.fancy_splits.specs.declared.choices.Passage.{Passage}
 use Rattle.fancy_splits.specs.declared.choices.ToldChoice.{ToldChoice}
 use Rattle.fancy_prices.specs.declared.price.Price.{Price}
 use Rattle.fancy_prices.specs.Prices.{Dies, IsNothing}
-use Rattle.fancy_splits.specs.Splits.{IsOwn, IsPassageAt, Leads, LeadsBy, LeadsOut, LeadsPast, LeadsTo, PassesOver, ReadsByte, StopsAt, byte_alone, ways_of}
+use Rattle.fancy_code.specs.Items.{ReadsByte}
+use Rattle.fancy_splits.specs.Splits.{IsOwn, IsPassageAt, Leads, LeadsBy, LeadsOut, LeadsPast, LeadsTo, PassesOver, StopsAt, byte_alone, ways_of}
 use Rattle.fancy_prices.proofs.DyingWays.{dies_split}
 use Rattle.fancy_prices.proofs.PriceForms.{same_price}
 

@@ -1,11 +1,12 @@
 -- The choices of code, and what bytes tell of their ways.
-use Rattle.std.specs.Prelude.{IfSome, ◌≡◌, ℕ, zero, suc, ◌+◌, ◌<◌, ◌≤◌, ◌⊎◌, Bool, true, false, List, [], ◌∷◌, length, Option, Some, None, slice_get, slice_index, slice_index_or, slice_set}
+use Rattle.std.specs.Prelude.{IfSome, ◌≡◌, ℕ, zero, suc, ◌+◌, ◌<◌, ◌≤◌, ◌⊎◌, true, false, List, [], ◌∷◌, length, Option, Some, None, slice_get, slice_index, slice_index_or, slice_set}
 use Rattle.fancy_tree.specs.declared.tree.Meaning.{Meaning}
 use Rattle.fancy_bytes.specs.Sets.{ByteFlags, member}
 use Rattle.fancy_code.specs.declared.code.Code.{Code}
 use Rattle.fancy_code.specs.Code.{instrs_of}
-use Rattle.fancy_meaning.specs.Context.{Context, State, Unit_at, moved_to, unit_in, with_capture}
+use Rattle.fancy_meaning.specs.Context.{Context, State, moved_to, with_capture}
 use Rattle.fancy_code.specs.Instructions.{Instruction, Enter, Split}
+use Rattle.fancy_code.specs.Items.{ReadsByte, ReadsEach}
 use Rattle.fancy_code.specs.Run.{Note, Stop, fetched, before, instr_at, run}
 use Rattle.fancy_prices.specs.declared.facts.Facts.{Facts}
 use Rattle.fancy_splits.specs.declared.atoms.ToldAtom.{ToldAtom}
@@ -20,28 +21,6 @@ use Rattle.fancy_splits.specs.declared.splits.ToldPart.{ToldPart}
 use Rattle.fancy_splits.specs.declared.splits.ToldPart.TheVariants.{Loop, Choice, Atom}
 use Rattle.fancy_splits.specs.declared.splits.Splits.{Splits}
 use Rattle.fancy_prices.specs.Prices.{Costs, Dies}
-
--- an item of one byte
-abbrev pub single : ℕ → Unit_at
-single b = record { code = b; width = 1 }
-
--- wherever the byte stands, it is an item by itself
-abbrev pub IsAlone : Meaning → ℕ → Type 0
-IsAlone meaning b = (haystack : List ℕ) (p : ℕ) → slice_get haystack p ≡ Some b → unit_in meaning haystack p ≡ Some (single b)
-
--- each byte of the set is by itself an item that passes the test
-abbrev pub AreItems : Meaning → (ℕ → Bool) → ByteFlags → Type 0
-AreItems meaning test set = (b : ℕ) → b < 256 → member set b ≡ true → IsAlone meaning b × (test b ≡ true)
-
--- Where the byte b stands before the limit, the code at q reads it, and goes on at `back` after it.
-abbrev pub ReadsByte : List Instruction → Meaning → ℕ → ℕ → ℕ → Type 0
-ReadsByte code meaning b q back =
-    (x : Context) (limit n : ℕ) (s : State) (v : List ℕ) → x.meaning ≡ meaning → slice_get x.haystack s.place ≡ Some b → s.place < limit
-    → run x limit code (suc n) q s v ≡ before (Note fetched) (run x limit code n back (moved_to s (s.place + 1)) v)
-
--- so it is of each byte of the set
-abbrev pub ReadsEach : List Instruction → Meaning → ByteFlags → ℕ → ℕ → Type 0
-ReadsEach code meaning set q back = (b : ℕ) → b < 256 → member set b ≡ true → ReadsByte code meaning b q back
 
 -- Where the byte b stands before the limit, the code at q opens the group g, reads the byte, closes the group, and goes on at `back`.
 abbrev pub ReadsByteIn : List Instruction → Meaning → ℕ → ℕ → ℕ → ℕ → Type 0

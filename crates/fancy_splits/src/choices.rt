@@ -6,10 +6,12 @@ ghost use Rattle.fancy_code.specs.Code.{instrs_of};
 ghost use Rattle.fancy_code.specs.Instructions.{Instruction, Split};
 ghost use Rattle.fancy_code.specs.Run.{instr_at};
 ghost use Rattle.fancy_splits.specs.declared.choices.Passage.{Passage as PassageIs};
-ghost use Rattle.fancy_splits.specs.Splits.{AreSplits, IsOwn, IsPassage, IsPassageAt, IsToldChoice, Leads, LeadsBy, ReadsByte, ways_in, ways_of};
+ghost use Rattle.fancy_code.specs.Items.{ReadsByte};
+ghost use Rattle.fancy_splits.specs.Splits.{AreSplits, IsOwn, IsPassage, IsPassageAt, IsToldChoice, Leads, LeadsBy, ways_in, ways_of};
 
-use crate::splits::{Splits, ToldPart, is_alone, stop_at};
+use crate::splits::{Splits, ToldPart, stop_at};
 use fancy_code::code::{Code, Instr, Ways};
+use fancy_code::items::is_alone;
 use fancy_prices::facts::Facts;
 use fancy_prices::free::price_of;
 use fancy_prices::price::Price;

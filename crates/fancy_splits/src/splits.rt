@@ -6,12 +6,14 @@ ghost use Rattle.fancy_bytes.specs.Sets.{IsSetOf, member};
 ghost use Rattle.fancy_code.specs.declared.code.Code.{Code};
 ghost use Rattle.fancy_code.specs.Code.{instrs_of};
 ghost use Rattle.fancy_code.specs.Instructions.{edges_in};
-ghost use Rattle.fancy_splits.specs.Splits.{AreApart, AreItems, AreSplits, DiesPast, IsAlone, IsTold, IsToldSplit, IsNoted, IsPart, LeavesAt, ReadsEach, ReadsEachIn, StopsAt};
+ghost use Rattle.fancy_code.specs.Items.{ReadsEach};
+ghost use Rattle.fancy_splits.specs.Splits.{AreApart, AreSplits, DiesPast, IsTold, IsToldSplit, IsNoted, IsPart, LeavesAt, ReadsEachIn, StopsAt};
 
 use crate::atoms::{ToldAtom, atom_at};
 use crate::choices::{ToldChoice, choice_at};
 use fancy_bytes::byte_set::ByteSet;
 use fancy_code::code::{Code, Instr};
+use fancy_code::items::items_at;
 use fancy_prices::facts::Facts;
 use fancy_prices::free::is_free;
 use fancy_tree::char_set::CharSet;
@@ -100,40 +102,6 @@ pub struct Splits {
     parts: Vec<ToldPart>,
 }
 
-/// Whether a byte can be an item by itself: an ASCII one, and any where items are bytes.
-pub(crate) fn is_alone(meaning: Meaning, byte: u8) -> bool
-    ensures { result ≡ true → IsAlone meaning byte }
-{
-    match meaning {
-        Meaning::Bytes => true,
-        Meaning::Unicode | Meaning::AsciiText => byte < 0x80,
-    }
-}
-
-/// The byte that is the character by itself, if there is one.
-fn bytes_of_character(character: char, meaning: Meaning) -> ByteSet
-    ensures { AreItems meaning (λ d. d == character) result }
-{
-    let code = character as u32;
-    if code < 256 && is_alone(meaning, code as u8) {
-        return ByteSet::of(code as u8);
-    }
-    ByteSet::new()
-}
-
-/// The bytes that are a member by themselves.
-fn bytes_of_set(set: &CharSet, meaning: Meaning) -> ByteSet
-    ensures { AreItems meaning (has (edges_in set.now)) result }
-{
-    let mut items = ByteSet::new();
-    for byte in 0..256u32 {
-        if is_alone(meaning, byte as u8) && set.contains(byte) {
-            items.insert(byte as u8);
-        }
-    }
-    items
-}
-
 /// What reads an item, before it goes on elsewhere.
 #[derive(Drop)]
 pub(crate) struct Reader {
@@ -178,18 +146,9 @@ pub(crate) fn reader_at(code: &Code, at: usize, back: usize) -> Reader
     ensures reads { ReadsEach (instrs_of code.now) code.now.meaning result.items at back }
     ensures ends { result.is_item ≡ true → DiesPast (instrs_of code.now) at }
 {
-    if at >= code.len() {
-        return Reader::none();
-    }
-    match code.instr(at) {
-        Instr::Character(character, next) if *next == back => {
-            Reader::alone(bytes_of_character(*character, code.meaning))
-        }
-        Instr::Member(set, next) if *next == back => {
-            Reader::alone(bytes_of_set(code.set(*set), code.meaning))
-        }
-        Instr::RawByte(byte, next) if *next == back => Reader::alone(ByteSet::of(*byte)),
-        _ => Reader::none(),
+    match items_at(code, at, back) {
+        Some(items) => Reader::alone(items),
+        None => Reader::none(),
     }
 }
 

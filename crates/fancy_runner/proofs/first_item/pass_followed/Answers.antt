@@ -1,4 +1,4 @@
-use Rattle.std.proofs.Common.{◌<◌, inl, inr, sym, ap, arith, ◌≡◌, ◌≤◌, ◌+◌, ℕ, subst}
+use Rattle.std.proofs.Common.{inl, inr, sym, arith, ◌≡◌, ℕ, subst}
 use Rattle.std.proofs.lemmas.Bool.{cases_lt}
 use Rattle.fancy_runner.specs.FirstItem.{FindsNone}
 use Rattle.fancy_runner.proofs.first_item.pass_followed.Goals as goal

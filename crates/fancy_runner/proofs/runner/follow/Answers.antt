@@ -1,4 +1,4 @@
-use Rattle.std.proofs.Common.{rules, ◌≡◌, ◌+◌, ◌-◌, ◌^◌, ◌<◌, ◌∷◌, inl, inr, length, List, ap, ◌∙◌, subst, arith}
+use Rattle.std.proofs.Common.{rules, ◌≡◌, ◌+◌, ◌-◌, ◌^◌, ◌<◌, ◌∷◌, inl, inr, refl, length, List, ap, ◌∙◌, subst, arith}
 use Rattle.fancy_code.specs.Thread.{Thread}
 use Rattle.fancy_runner.specs.Threads.{begun_at}
 use Rattle.fancy_code.specs.Attempt.{context_in, instrs_in, may_end_in}
@@ -11,24 +11,33 @@ use Rattle.fancy_code.proofs.MarkingLemmas.{either_side}
 use Rattle.fancy_runner.proofs.SweepLemmas.{rising_next}
 use Rattle.fancy_runner.proofs.RunLemmas.{ready_on, worked_on, worked_same, worked_back, ran_ok, ran_err}
 use Rattle.fancy_runner.proofs.RunnerLemmas.{rest_done, rest_back, within_lower}
+use Rattle.fancy_runner.proofs.WentOnLemmas.{worked_went}
 use Rattle.fancy_runner.proofs.runner.follow.Goals as goal
 
-pub pairs-smaller-else-is_long : goal.pairs-smaller-else-is_long
-pairs-smaller-else-is_long c =
-    let progress = rw c.in-On.is at c.in_ok-visit.ensures.progress in
-    omega (arith, progress.0, progress.1)
-
-pub pairs-preserved-else-is_long : goal.pairs-preserved-else-is_long
-pairs-preserved-else-is_long c =
+pub pairs-preserved-in-On : goal.pairs-preserved-in-On
+pairs-preserved-in-On c =
     let spent = rw c.in-On.is at c.in_ok-visit.ensures.spent in
+    let went = c.read_items-pair.ensures in
+    let within = c.in_ok-visit.ensures.within c.args.start.place c.pairs.invariant.within in
+    let rising = rising_next (current_in c.args.attempt.now c.pairs.pair c.pairs.threads) (current_in c.args.attempt.now c.visit.new.pair c.visit.new.threads) (saved_in c.args.attempt.now c.pairs.threads) (saved_in c.args.attempt.now c.visit.new.threads) c.pairs.invariant.rising c.in_ok-visit.ensures.saves.grown c.in_ok-visit.ensures.forth in
     record {
-      running = λ kept deep known failed. rw c.in-On.is at (c.in_ok-visit.ensures.visited c.args.start.place kept deep (first_accepted_in c.args.attempt.now kept deep (begun_at c.args.start c.args.threads.now.slots)) c.requires.ready.low c.pairs.invariant.within (c.pairs.invariant.running kept deep known failed));
-      within = c.in_ok-visit.ensures.within c.args.start.place c.pairs.invariant.within;
-      rising = rising_next (current_in c.args.attempt.now c.pairs.pair c.pairs.threads) (current_in c.args.attempt.now c.visit.new.pair c.visit.new.threads) (saved_in c.args.attempt.now c.pairs.threads) (saved_in c.args.attempt.now c.visit.new.threads) c.pairs.invariant.rising c.in_ok-visit.ensures.saves.grown c.in_ok-visit.ensures.forth;
-      spent = omega (arith, spent, c.pairs.invariant.spent);
-      tally = λ few. omega (arith, c.visit.ensures.returns, c.visit.ensures.ran.worked.steps, c.in_ok-visit.ensures.saves.tally few, c.pairs.invariant.tally (omega (arith, few, c.visit.ensures.ran.worked.steps)));
-      worked = worked_on c.pairs.invariant.worked c.visit.ensures.ran.worked;
+      running = λ kept deep known failed.
+          went.running c.args.start.place kept deep (first_accepted_in c.args.attempt.now kept deep (begun_at c.args.start c.args.threads.now.slots)) _ (saved_in c.args.attempt.now c.visit.new.threads) c.requires.ready.low
+          (rw c.in-On.is at (c.in_ok-visit.ensures.visited c.args.start.place kept deep (first_accepted_in c.args.attempt.now kept deep (begun_at c.args.start c.args.threads.now.slots)) c.requires.ready.low c.pairs.invariant.within (c.pairs.invariant.running kept deep known failed)));
+      within = (omega (arith, within.0, went.forth), went.high within.1, within.2);
+      rising = rising_next (current_in c.args.attempt.now c.visit.new.pair c.visit.new.threads) (current_in c.args.attempt.now c.read_items-pair.result c.visit.new.threads) (saved_in c.args.attempt.now c.visit.new.threads) (saved_in c.args.attempt.now c.visit.new.threads) rising (inl refl) went.forth;
+      spent = omega (arith, spent, went.spent, c.pairs.invariant.spent);
+      tally = λ few.
+          (let visited : steps_of c.visit.new.work < 2 ^ 64 - 1 = omega (arith, few, went.steps) in
+          omega (arith, went.steps, went.returns, c.visit.ensures.returns, c.visit.ensures.ran.worked.steps, c.in_ok-visit.ensures.saves.tally visited, c.pairs.invariant.tally (omega (arith, visited, c.visit.ensures.ran.worked.steps))));
+      worked = worked_on (worked_on c.pairs.invariant.worked c.visit.ensures.ran.worked) (worked_went c.visit.ensures.ran.worked.last_lines went);
     }
+
+pub read_items-pair-requires-clause-row : goal.read_items-pair-requires-clause-row
+read_items-pair-requires-clause-row c =
+    let ready = ready_on c.requires.ready.ready (worked_on c.pairs.invariant.worked c.visit.ensures.ran.worked) in
+    let within = c.in_ok-visit.ensures.within c.args.start.place c.pairs.invariant.within in
+    record { low = omega (arith, c.requires.ready.low, within.0); high = within.1; room = ready.room; small = ready.small }
 
 pub returns-in-None-clause-answer : goal.returns-in-None-clause-answer
 returns-in-None-clause-answer c kept deep known failed =

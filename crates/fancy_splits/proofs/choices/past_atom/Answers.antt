@@ -2,7 +2,8 @@ use Rattle.std.proofs.Common.{◌≡◌, [], sym, ap, subst, ◌∙◌, ◌+◌}
 use Rattle.fancy_code.specs.Code.{instrs_of, instr_in}
 use Rattle.fancy_splits.specs.declared.choices.Onward.{Onward}
 use Rattle.fancy_splits.specs.declared.choices.Onward.TheVariants.{Goes, Reads}
-use Rattle.fancy_splits.specs.Splits.{Leads, ReadsByte, ways_of}
+use Rattle.fancy_code.specs.Items.{ReadsByte}
+use Rattle.fancy_splits.specs.Splits.{Leads, ways_of}
 use Rattle.fancy_splits.proofs.PassageLemmas.{leads_as, leads_out}
 use Rattle.fancy_splits.proofs.choices.past_atom.Goals as goal
 

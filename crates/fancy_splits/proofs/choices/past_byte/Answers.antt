@@ -2,7 +2,7 @@ use Rattle.std.proofs.Common.{◌≡◌, ◌∙◌, ◌==◌, List, ℕ, true, s
 use Rattle.fancy_tree.specs.Sets.{has}
 use Rattle.fancy_code.specs.Code.{instrs_of, instr_in, set_edges}
 use Rattle.fancy_code.specs.Instructions.{RawByte}
-use Rattle.fancy_splits.proofs.SplitLemmas.{reads_character, reads_member, reads_raw_byte}
+use Rattle.fancy_code.proofs.ItemLemmas.{reads_character, reads_member, reads_raw_byte}
 use Rattle.fancy_splits.proofs.choices.past_byte.Goals as goal
 
 pub returns-in-Character : goal.returns-in-Character

@@ -1,7 +1,7 @@
-use Rattle.std.proofs.Common.{◌≡◌, ◌+◌, ◌-◌, ◌*◌, ◌≤◌, ◌<◌, ℕ, Bool, Option, Some, true, false, sym, ap, ◌∙◌, arith}
+use Rattle.std.proofs.Common.{◌≡◌, ◌+◌, ◌-◌, ◌*◌, ◌≤◌, ◌<◌, ℕ, Bool, Option, true, false, sym, ap, ◌∙◌, arith}
 use Rattle.std.specs.Prelude.{slice_index_or}
 use Rattle.fancy_meaning.specs.Context.{option_to}
-use Rattle.fancy_code.specs.Code.{number_of, width_of}
+use Rattle.fancy_code.specs.Code.{width_of}
 use Rattle.fancy_code.proofs.MarkingLemmas.{bit_inside}
 use Rattle.fancy_runner.specs.Attempt.{marks_in}
 use Rattle.fancy_runner.proofs.FirstItemLemmas.{finds_none}

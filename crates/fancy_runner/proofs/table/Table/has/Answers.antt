@@ -1,4 +1,4 @@
-use Rattle.std.proofs.Common.{◌/◌, ◌-◌, ◌≤◌, ◌<◌, length, ap, ◌∙◌, sym, arith}
+use Rattle.std.proofs.Common.{arith}
 use Rattle.fancy_runner.proofs.TableLemmas.{read_gone, read_word, read_past}
 use Rattle.fancy_runner.proofs.table.Table.has.Goals as goal
 
