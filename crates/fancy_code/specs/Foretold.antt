@@ -41,7 +41,7 @@ IsAnchored code anchor at = (x : Context) (limit n : ℕ) (s : State) (v : List 
 abbrev pub is_at_end : ℕ → Bool
 is_at_end b = (b == 0) || ((b == 10) || (b == 13))
 
--- the assertion holds at ends of lines and of the text alone
+-- where a byte stands, the assertion holds before a line feed, a carriage return or byte 0 alone
 abbrev pub HoldsAtEnds : Assertion → Type 0
 HoldsAtEnds a = (x : Context) (p : ℕ) → is_at_end (slice_index x.haystack p) ≡ false → holds x a p ≡ false
 

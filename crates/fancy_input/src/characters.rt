@@ -7,6 +7,7 @@ ghost use Rattle.fancy_input.specs.Places.{char_at, char_before, char_of_width_b
 use crate::places::is_continuation;
 
 /// The character of two bytes. The first says that there are two.
+#[inline(always)]
 fn two_bytes(first: u8, second: u8) -> Option<char>
     requires { continuation_len first ≡ 1 }
     ensures { result ≡ char_at (first ∷ second ∷ []) 0 }
@@ -18,6 +19,7 @@ fn two_bytes(first: u8, second: u8) -> Option<char>
 }
 
 /// The character of three bytes. The first says that there are three.
+#[inline(always)]
 fn three_bytes(first: u8, second: u8, third: u8) -> Option<char>
     requires { continuation_len first ≡ 2 }
     ensures { result ≡ char_at (first ∷ second ∷ third ∷ []) 0 }
@@ -53,6 +55,7 @@ fn four_bytes(first: u8, second: u8, third: u8, fourth: u8) -> Option<char>
 /// assert_eq!(character_at("aé".as_bytes(), 1), Some('é'));
 /// assert_eq!(character_at("aé".as_bytes(), 2), None);
 /// ```
+#[inline(always)]
 pub fn character_at(haystack: &[u8], place: usize) -> Option<char>
     ensures { result ≡ char_at haystack.now place }
 {

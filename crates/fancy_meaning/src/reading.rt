@@ -54,6 +54,15 @@ fn read_wide_at(haystack: &[u8], meaning: Meaning, place: usize) -> Option<Readi
     ensures reading { option_map unit_read result ≡ unit_in meaning haystack.now place }
     ensures fits { IfSome result (λ r. place + r.width ≤ length haystack.now) }
 {
+    read_any_at(haystack, meaning, place)
+}
+
+/// The same in line, for loops over characters past ASCII.
+#[inline(always)]
+pub fn read_any_at(haystack: &[u8], meaning: Meaning, place: usize) -> Option<Reading>
+    ensures reading { option_map unit_read result ≡ unit_in meaning haystack.now place }
+    ensures fits { IfSome result (λ r. place + r.width ≤ length haystack.now) }
+{
     match meaning {
         Meaning::Unicode | Meaning::AsciiText => {
             let c = character_at(haystack, place)?;

@@ -2,7 +2,7 @@ use Rattle.std.proofs.Common.{◌≡◌, ap, sym, ◌∙◌, Option, Some, ℕ, 
 use Rattle.fancy_meaning.specs.Context.{Unit_at, one_byte, one_character}
 use Rattle.fancy_input.proofs.CharacterLemmas.{char_at-fits}
 use Rattle.fancy_meaning.proofs.ReadingLemmas.{byte_there}
-use Rattle.fancy_meaning.proofs.reading.read_wide_at.Goals as goal
+use Rattle.fancy_meaning.proofs.reading.read_any_at.Goals as goal
 
 made : ℕ → ℕ → Option Unit_at
 made code width = Some (record { code = code; width = width })
