@@ -1,27 +1,13 @@
 -- Pairs that the thread goes on to alone.
-use Rattle.std.proofs.Common.{ℕ, ◌∙◌, Bool, List, Option, Some, None, refl, arith}
+use Rattle.std.proofs.Common.{ℕ, ◌∙◌, Bool, List, Option, Some, None, arith}
 use Rattle.fancy_code.specs.declared.attempt.Attempt.{Attempt}
 use Rattle.fancy_input.specs.declared.work.Work.{Work}
 use Rattle.fancy_input.specs.Work.{HasWorkLeft, RunsWithin}
-use Rattle.fancy_input.proofs.WorkLemmas.{OneStep, runs_all, runs_on, runs_from_start}
+use Rattle.fancy_input.proofs.WorkLemmas.{OneStep, runs_all, runs_on}
 use Rattle.fancy_input.specs.LastLines.{KnowsLastLines}
 use Rattle.fancy_runner.specs.declared.notes.Notes.{Notes}
 use Rattle.fancy_runner.specs.declared.pair.Pair.{Pair}
 use Rattle.fancy_runner.specs.Runs.{WentOn, Worked}
-
--- it stays
-pub went_none : (a : Attempt) (p : Pair) (table : List Bool) (work : Work) → WentOn a p p table table work work
-went_none a p table work = record {
-  running = λ low kept deep goal slots saved begins r. r;
-  forth = omega arith;
-  high = λ h. h;
-  room = refl;
-  spent = omega arith;
-  steps = omega arith;
-  counted = λ few. omega arith;
-  returns = refl;
-  heeds = runs_from_start a.step_limit work;
-}
 
 -- it goes on, and then again
 pub went_then : {a : Attempt} {p q r : Pair} {first middle last : List Bool} {before between after : Work} → WentOn a p q first middle before between

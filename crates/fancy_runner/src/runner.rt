@@ -374,7 +374,7 @@ pub fn follow(
         let place = pair.place;
         match visit(attempt, &mut pair, threads, notes, work)? {
             Next::On => {
-                if pair.place > place && threads.is_long() {
+                if pair.place == place && threads.is_long() {
                     let end = follow_by_place(attempt, pair, threads, notes, work)?;
                     return Ok(end);
                 }
