@@ -6,3 +6,4 @@ pub mod HopLemmas
 pub mod SoleLemmas
 pub mod DecidedLemmas
 pub mod WalkLemmas
+pub mod ToldLemmas

@@ -1,5 +1,5 @@
 -- Steps of a search whose ways that wait all began at one place.
-use Rattle.std.proofs.Common.{◌≡◌, ℕ, zero, suc, ◌+◌, ◌-◌, ◌<◌, inl, inr, ◌++◌, ◌∷◌, [], Bool, true, List, Option, Some, None, refl, sym, ap, ap₂, ◌∙◌, subst, arith, length, map, replicate, take, length-append, option_map, get_or}
+use Rattle.std.proofs.Common.{◌≡◌, ℕ, zero, suc, ◌+◌, ◌-◌, ◌<◌, inl, inr, ◌++◌, ◌∷◌, [], Bool, true, List, Option, Some, None, refl, sym, ap, ap₂, ◌∙◌, subst, arith, length, map, replicate, take, length-append, option_map}
 use Rattle.std.specs.Prelude.{slice_get, slice_index, nat_eq, nat_lt, is_some, IfSome}
 use Rattle.std.specs.List.{list_all}
 use Rattle.std.specs.Option.{option_or}
@@ -7,17 +7,13 @@ use Rattle.std.specs.Global.{Vec}
 use Rattle.std.proofs.lemmas.Bool.{and_parts}
 use Rattle.std.proofs.lemmas.Bool.Decides.{nat_tests}
 use Rattle.std.proofs.lemmas.List.{length-replicate}
-use Rattle.std.proofs.lemmas.Option.{get_or_from_slice_get, slice_get-get_or, slice_get_cases}
+use Rattle.std.proofs.lemmas.Option.{get_or_from_slice_get, slice_get_cases}
 use Rattle.fancy_input.specs.declared.span.Span.{Span}
 use Rattle.fancy_code.specs.declared.attempt.Attempt.{Attempt}
 use Rattle.fancy_code.specs.Attempt.{context_in, instrs_in, may_end_in}
-use Rattle.fancy_alphabet.specs.Classes.{IsStart, sight_for}
-use Rattle.fancy_alphabet.specs.Sides.{seen_as}
+use Rattle.fancy_alphabet.specs.Classes.{IsStart}
 use Rattle.fancy_alphabet.specs.Sights.{seen_in}
-use Rattle.fancy_alphabet.specs.Units.{place_after}
-use Rattle.fancy_alphabet.specs.declared.side.Side.{Side}
 use Rattle.fancy_alphabet.specs.declared.sight.Sight.{Sight}
-use Rattle.fancy_alphabet.proofs.SightLemmas.{like_ascii}
 use Rattle.fancy_states.specs.declared.cells.Cell.{Cell}
 use Rattle.fancy_states.specs.declared.cells.Cells.{Cells}
 use Rattle.fancy_automaton.specs.declared.hop.Stand.{Stand}
@@ -29,7 +25,7 @@ use Rattle.fancy_alphabet.specs.declared.classes.Classes.{Classes}
 use Rattle.fancy_states.specs.Cells.{HasRow, HasRows, IsCell, IsIdle, KeepsHolding, ways_at, row_if}
 use Rattle.fancy_automaton.specs.Front.{IsFront, Stands, front_at, found_of, starts_of, ways_of}
 use Rattle.fancy_states.specs.Origins.{ComeFrom}
-use Rattle.fancy_states.specs.Search.{Going, IsFollowed, begun_if, found_or}
+use Rattle.fancy_states.specs.Search.{Going, begun_if, found_or}
 use Rattle.fancy_automaton.specs.Sole.{IsAmid, IsAt, IsSole, stood}
 use Rattle.fancy_states.specs.Trail.{match_from}
 use Rattle.fancy_states.specs.Trail.{AllVisited, HitIn, found_at, known_hit, starts_after}
@@ -39,31 +35,26 @@ use Rattle.fancy_states.specs.declared.trail.Hit.{Hit}
 use Rattle.fancy_states.specs.declared.trail.Visit.{Visit}
 use Rattle.fancy_automaton.proofs.FrontLemmas.{known_found, known_in}
 use Rattle.fancy_states.specs.Steps.{IsStep, at_of, from_of, span_by, start_in}
-use Rattle.fancy_states.specs.Transitions.{IsMatching, IsQuiet, IsTransition, IsView}
-use Rattle.fancy_states.specs.declared.transitions.View.{View}
+use Rattle.fancy_states.specs.Transitions.{IsMatching, IsQuiet, IsTransition}
 use Rattle.fancy_states.specs.Ways.{match_end}
 use Rattle.fancy_states.proofs.CellLemmas.{cell_is, row_here, row_holds, row_ways}
-use Rattle.fancy_automaton.proofs.GoingLemmas.{going_same, going_step}
-use Rattle.fancy_automaton.proofs.HopLemmas.{ascii_leads, column_low, start_after}
+use Rattle.fancy_automaton.proofs.GoingLemmas.{going_on, going_same, going_step}
+use Rattle.fancy_automaton.specs.Told.{Sees}
 use Rattle.fancy_states.proofs.SearchLemmas.{no_items}
 use Rattle.fancy_states.proofs.StepLemmas.{step_alike}
 
 -- The ways after a step, and where the search stands then.
-pub record Stepped (a : Attempt) (cells : Cells) (at : Stand) (ways starts : List ℕ) (found after : Option Span) (t : Transition) (matched : Option ℕ) : Type 0 where
+pub record Stepped (a : Attempt) (cells : Cells) (at : Stand) (ways starts : List ℕ) (found after : Option Span) (past : ℕ) (t : Transition) (matched : Option ℕ) : Type 0 where
   pub next : List Way
   pub come : ComeFrom t.origin (length (begun_if found ways a.code.now.start)) (map from_of next) matched
-  pub stands : IsAt a cells (stood at t) (map at_of next) (map (start_in (begun_if found starts at.place)) next) after
+  pub stands : IsAt a cells (stood past t) (map at_of next) (map (start_in (begun_if found starts at.place)) next) after
 
 -- a step that the table tells
 module _ (a : Attempt) (cells : Cells) (at : Stand) (ways starts : List ℕ) (found : Option Span)
-    (row byte c : ℕ) (t : Transition) (d : Cell)
-    (before : at.place < a.last) (here : slice_get a.haystack.now at.place ≡ Some byte) (column : slice_get cells.table.classes.columns.items byte ≡ Some c)
+    (row past : ℕ) (asked : Sight) (t : Transition) (d : Cell) (sees : Sees a cells.table.classes at.place past asked)
     (is : IsAt a cells at ways starts found) (rowed : row ≡ row_if found at.next at.begun)
-    (told : IsTransition cells.table.classes cells.cells.items row (sight_for cells.table.classes (seen_as cells.table.classes.tests is.begins.0) byte) t)
+    (told : IsTransition cells.table.classes cells.cells.items row asked t)
     (there : slice_get cells.cells.items t.cell ≡ Some d) where
-  abbrev asked : Sight
-  asked = sight_for cells.table.classes (seen_as cells.table.classes.tests is.begins.0) byte
-
   abbrev begun : List ℕ
   begun = begun_if found ways a.code.now.start
 
@@ -85,17 +76,14 @@ module _ (a : Attempt) (cells : Cells) (at : Stand) (ways starts : List ℕ) (fo
       (subst (λ (ws : List ℕ). ComeFrom d.origin (length ws) d.came.items d.matched) same own.comes_from))
 
   pub stepped : (after : Option Span) → ((rest : Option (ℕ × ℕ)) → found_or after rest ≡ option_or (span_by (begun_if found starts at.place) (match_end d.matched at.place)) (found_or found rest))
-      → Stepped a cells at ways starts found after t d.matched
+      → Stepped a cells at ways starts found after past t d.matched
   stepped after hits =
-      let classes = cells.table.classes in
       let rows = cells.rows.lists.items in
       let p = at.place in
-      let low = column_low classes byte c column in
-      let like = like_ascii a p classes is.all.1 is.begins.0 byte is.begins.1 low before here in
+      let like = sees.like in
       let step = step_alike (instrs_in a) begun like.whole (seen_in asked) own.after d.matched like.alike
       (subst (λ (ws : List ℕ). IsStep (instrs_in a) ws (seen_in asked) own.after d.matched) same own.step) in
       let moved = going_step a is.followed.steady is.followed.plain ways starts found after p like.whole own.after d.matched is.within is.good like.seen step (λ none. own.halts (like.ends none)) hits is.going in
-      let width : place_after p like.whole.unit ≡ p + 1 = sym like.width in
       record {
         next = own.after;
         come = comes;
@@ -105,17 +93,18 @@ module _ (a : Attempt) (cells : Cells) (at : Stand) (ways starts : List ℕ) (fo
           all = is.all;
           waits = subst (λ (n : ℕ). HasRow rows n (map at_of own.after)) (told.next d there) own.leads;
           opens = subst (λ (n : ℕ). HasRow rows n (map at_of own.after ++ a.code.now.start ∷ [])) (told.begun d there) own.opens;
-          going = going_same a _ _ _ _ after after (p + 1) _ (p + 1) refl refl refl width moved;
-          begins = start_after a classes p byte t.begun t.opened is.all.1 low here told.opened;
-          good = ascii_leads a p byte before low here is.followed.steady is.good;
-          within = omega (arith, before);
+          going = going_on a _ _ after (p + 1) past (omega (arith, sees.within))
+              (going_same a _ _ _ _ after after (p + 1) _ past refl refl refl sees.width moved);
+          begins = sees.begins t.begun t.opened told.opened;
+          good = sees.good;
+          within = sees.within;
         };
       }
 
-  pub quiet : d.matched ≡ None → Stepped a cells at ways starts found found t d.matched
+  pub quiet : d.matched ≡ None → Stepped a cells at ways starts found found past t d.matched
   quiet none = stepped found (λ rest. ap (λ (o : Option ℕ). option_or (span_by (begun_if found starts at.place) (match_end o at.place)) (found_or found rest)) (sym none))
 
-  pub matching : (f s : ℕ) → d.matched ≡ Some f → slice_index (begun_if found starts at.place) f ≡ s → Stepped a cells at ways starts found (Some (record { start = s; end = at.place })) t d.matched
+  pub matching : (f s : ℕ) → d.matched ≡ Some f → slice_index (begun_if found starts at.place) f ≡ s → Stepped a cells at ways starts found (Some (record { start = s; end = at.place })) past t d.matched
   matching f s some began =
       stepped (Some (record { start = s; end = at.place })) (λ rest. ap (λ (x : ℕ). Some (x, at.place)) (sym began)
       ∙ ap (λ (o : Option ℕ). option_or (span_by (begun_if found starts at.place) (match_end o at.place)) (found_or found rest)) (sym some))
@@ -128,30 +117,29 @@ equal f n e = grind (arith, nat_tests)
 
 -- of which way a match comes that is found
 module _ (a : Attempt) (cells : Cells) (at : Stand) (ways starts : List ℕ) (found : Option Span)
-    (row byte c : ℕ) (t : Transition) (d : Cell)
-    (before : at.place < a.last) (here : slice_get a.haystack.now at.place ≡ Some byte) (column : slice_get cells.table.classes.columns.items byte ≡ Some c)
+    (row past : ℕ) (asked : Sight) (t : Transition) (d : Cell) (sees : Sees a cells.table.classes at.place past asked)
     (is : IsAt a cells at ways starts found) (rowed : row ≡ row_if found at.next at.begun)
-    (told : IsTransition cells.table.classes cells.cells.items row (sight_for cells.table.classes (seen_as cells.table.classes.tests is.begins.0) byte) t)
+    (told : IsTransition cells.table.classes cells.cells.items row asked t)
     (there : slice_get cells.cells.items t.cell ≡ Some d) where
   abbrev many : ℕ
   many = length (begun_if found ways a.code.now.start)
 
   abbrev all_come : List ℕ
-  all_come = map from_of (own a cells at ways starts found row byte c t d before here column is rowed told there).after
+  all_come = map from_of (own a cells at ways starts found row past asked t d sees is rowed told there).after
 
   pub earlier_found : t.origin ≡ Earlier → IfSome d.matched (λ f. f < many - 1)
   earlier_found e =
-      let come : ComeFrom Earlier many all_come d.matched = subst (λ (o : Origin). ComeFrom o many all_come d.matched) e (comes a cells at ways starts found row byte c t d before here column is rowed told there) in
+      let come : ComeFrom Earlier many all_come d.matched = subst (λ (o : Origin). ComeFrom o many all_come d.matched) e (comes a cells at ways starts found row past asked t d sees is rowed told there) in
       come.1
 
   pub last_found : t.origin ≡ Last → IfSome d.matched (λ f. f ≡ many - 1)
   last_found e =
-      let come : ComeFrom Last many all_come d.matched = subst (λ (o : Origin). ComeFrom o many all_come d.matched) e (comes a cells at ways starts found row byte c t d before here column is rowed told there) in
+      let come : ComeFrom Last many all_come d.matched = subst (λ (o : Origin). ComeFrom o many all_come d.matched) e (comes a cells at ways starts found row past asked t d sees is rowed told there) in
       come.2
 
   pub some_way : t.origin ≡ Last → 0 < many
   some_way e =
-      let come : ComeFrom Last many all_come d.matched = subst (λ (o : Origin). ComeFrom o many all_come d.matched) e (comes a cells at ways starts found row byte c t d before here column is rowed told there) in
+      let come : ComeFrom Last many all_come d.matched = subst (λ (o : Origin). ComeFrom o many all_come d.matched) e (comes a cells at ways starts found row past asked t d sees is rowed told there) in
       come.0
 
 -- ways that come from some with one beginning have it too
@@ -192,24 +180,24 @@ last_began ways starts start p f even e =
     index_last starts p f (omega (arith, even, e, more))
 
 -- what all ways began at, and a match that is found
-module _ (a : Attempt) (cells : Cells) (at : Stand) (ways : List ℕ) (s : ℕ) (after : Option Span) (t : Transition) (matched : Option ℕ) where
+module _ (a : Attempt) (cells : Cells) (at : Stand) (ways : List ℕ) (s : ℕ) (after : Option Span) (past : ℕ) (t : Transition) (matched : Option ℕ) where
   abbrev Sole_at : ℕ → Type 0
-  Sole_at p = (next : List ℕ) × IsAt a cells (stood at t) next (replicate (length next) p) after
+  Sole_at p = (next : List ℕ) × IsAt a cells (stood past t) next (replicate (length next) p) after
 
-  pub keeps_start : Stepped a cells at ways (replicate (length ways) s) None after t matched → t.origin ≡ Earlier → Sole_at s
+  pub keeps_start : Stepped a cells at ways (replicate (length ways) s) None after past t matched → t.origin ≡ Earlier → Sole_at s
   keeps_start st e =
       let come : ComeFrom Earlier (length (ways ++ a.code.now.start ∷ [])) (map from_of st.next) matched = subst (λ (o : Origin). ComeFrom o (length (ways ++ a.code.now.start ∷ [])) (map from_of st.next) matched) e st.come in (
         map at_of st.next,
-        subst (λ (ss : List ℕ). IsAt a cells (stood at t) (map at_of st.next) ss after)
+        subst (λ (ss : List ℕ). IsAt a cells (stood past t) (map at_of st.next) ss after)
             (began_at_one (replicate (length ways) s ++ at.place ∷ []) s (λ f. nat_lt f (length (ways ++ a.code.now.start ∷ []) - 1)) st.next
             (λ f lt. earlier_began ways a.code.now.start s at.place f (below f _ lt)) come.0) st.stands,
       )
 
-  pub starts_here : (starts : List ℕ) → length starts ≡ length ways → Stepped a cells at ways starts None after t matched → t.origin ≡ Last → Sole_at at.place
+  pub starts_here : (starts : List ℕ) → length starts ≡ length ways → Stepped a cells at ways starts None after past t matched → t.origin ≡ Last → Sole_at at.place
   starts_here starts even st e =
       let come : ComeFrom Last (length (ways ++ a.code.now.start ∷ [])) (map from_of st.next) matched = subst (λ (o : Origin). ComeFrom o (length (ways ++ a.code.now.start ∷ [])) (map from_of st.next) matched) e st.come in (
         map at_of st.next,
-        subst (λ (ss : List ℕ). IsAt a cells (stood at t) (map at_of st.next) ss after)
+        subst (λ (ss : List ℕ). IsAt a cells (stood past t) (map at_of st.next) ss after)
             (began_at_one (starts ++ at.place ∷ []) at.place (λ f. nat_eq f (length (ways ++ a.code.now.start ∷ []) - 1)) st.next
             (λ f same. last_began ways starts a.code.now.start at.place f even (equal f _ same)) come.1) st.stands,
       )
@@ -225,70 +213,56 @@ pub some_of : (o : Option ℕ) → is_some o ≡ true → (f : ℕ) × (o ≡ So
 some_of None e = absurd (cc)
 some_of (Some f) e = (f, refl)
 
--- an ASCII character is read, and the table tells the step from the row on it
-pub record Reads (a : Attempt) (cells : Cells) (at : Stand) (row byte c : ℕ) : Type 0 where
-  pub before : at.place < a.last
-  pub here : slice_get a.haystack.now at.place ≡ Some byte
-  pub column : slice_get cells.table.classes.columns.items byte ≡ Some c
-
-pub reads : (a : Attempt) (cells : Cells) (at : Stand) (v : View) (row c : ℕ) → IsFollowed a → IsView cells.table v → at.place < a.last
-    → slice_get v.columns.now (get_or a.haystack.now at.place 0) ≡ Some c → Reads a cells at row (get_or a.haystack.now at.place 0) c
-reads a cells at v row c followed view before there = record {
-  before = before;
-  here = slice_get-get_or a.haystack.now at.place 0 (omega (arith, followed.inside, before));
-  column = ap (λ (cs : List ℕ). slice_get cs (get_or a.haystack.now at.place 0)) (sym view.0) ∙ there;
-}
-
-module _ (a : Attempt) (cells : Cells) (at : Stand) (byte c : ℕ) (t : Transition) where
-  -- what the table has of the row on what is seen
-  abbrev pub Tells : ℕ → Side → (List Cell → Transition → Type 0) → Type 0
-  Tells row before Also = IsTransition cells.table.classes cells.cells.items row (sight_for cells.table.classes (seen_as cells.table.classes.tests before) byte) t × Also cells.cells.items t
+module _ (a : Attempt) (cells : Cells) (at : Stand) (past : ℕ) (asked : Sight) (t : Transition) (sees : Sees a cells.table.classes at.place past asked) where
+  -- the step from a row on what is read there
+  abbrev pub Tells : ℕ → (List Cell → Transition → Type 0) → Type 0
+  Tells row Also = IsTransition cells.table.classes cells.cells.items row asked t × Also cells.cells.items t
 
   -- nothing is found, and the ways after the step come from those that waited
-  pub quiet_earlier : (ways : List ℕ) (s : ℕ) (is : IsAt a cells at ways (replicate (length ways) s) None) → Reads a cells at at.begun byte c → Tells at.begun is.begins.0 IsQuiet
-      → t.origin ≡ Earlier → (next : List ℕ) × IsAt a cells (stood at t) next (replicate (length next) s) None
-  quiet_earlier ways s is r told e =
+  pub quiet_earlier : (ways : List ℕ) (s : ℕ) → IsAt a cells at ways (replicate (length ways) s) None → Tells at.begun IsQuiet
+      → t.origin ≡ Earlier → (next : List ℕ) × IsAt a cells (stood past t) next (replicate (length next) s) None
+  quiet_earlier ways s is told e =
       let there = cell_there cells.cells.items t.cell told.0.stands in
-      keeps_start a cells at ways s None t there.0.matched
-      (quiet a cells at ways (replicate (length ways) s) None at.begun byte c t there.0 r.before r.here r.column is refl told.0 there.1 (told.1 there.0 there.1)) e
+      keeps_start a cells at ways s None past t there.0.matched
+      (quiet a cells at ways (replicate (length ways) s) None at.begun past asked t there.0 sees is refl told.0 there.1 (told.1 there.0 there.1)) e
 
   -- or from the one that began
-  pub quiet_last : (ways starts : List ℕ) (is : IsAt a cells at ways starts None) → Reads a cells at at.begun byte c → Tells at.begun is.begins.0 IsQuiet
-      → t.origin ≡ Last → (next : List ℕ) × IsAt a cells (stood at t) next (replicate (length next) at.place) None
-  quiet_last ways starts is r told e =
+  pub quiet_last : (ways starts : List ℕ) → IsAt a cells at ways starts None → Tells at.begun IsQuiet
+      → t.origin ≡ Last → (next : List ℕ) × IsAt a cells (stood past t) next (replicate (length next) at.place) None
+  quiet_last ways starts is told e =
       let there = cell_there cells.cells.items t.cell told.0.stands in
-      starts_here a cells at ways 0 None t there.0.matched starts is.going.even
-      (quiet a cells at ways starts None at.begun byte c t there.0 r.before r.here r.column is refl told.0 there.1 (told.1 there.0 there.1)) e
+      starts_here a cells at ways 0 None past t there.0.matched starts is.going.even
+      (quiet a cells at ways starts None at.begun past asked t there.0 sees is refl told.0 there.1 (told.1 there.0 there.1)) e
 
   -- or from both
-  pub quiet_amid : (ways starts : List ℕ) (is : IsAt a cells at ways starts None) → Reads a cells at at.begun byte c → Tells at.begun is.begins.0 IsQuiet → IsAmid a cells (stood at t)
-  quiet_amid ways starts is r told =
+  pub quiet_amid : (ways starts : List ℕ) → IsAt a cells at ways starts None → Tells at.begun IsQuiet → IsAmid a cells (stood past t)
+  quiet_amid ways starts is told =
       let there = cell_there cells.cells.items t.cell told.0.stands in
-      let st = quiet a cells at ways starts None at.begun byte c t there.0 r.before r.here r.column is refl told.0 there.1 (told.1 there.0 there.1) in
+      let st = quiet a cells at ways starts None at.begun past asked t there.0 sees is refl told.0 there.1 (told.1 there.0 there.1) in
       (map at_of st.next, map (start_in (starts ++ at.place ∷ [])) st.next, st.stands)
 
   -- a match is found
-  pub found_earlier : (ways : List ℕ) (s : ℕ) (is : IsAt a cells at ways (replicate (length ways) s) None) → Reads a cells at at.begun byte c → Tells at.begun is.begins.0 IsMatching
-      → t.origin ≡ Earlier → (next : List ℕ) × IsAt a cells (stood at t) next (replicate (length next) s) (Some (record { start = s; end = at.place }))
-  found_earlier ways s is r told e =
+  pub found_earlier : (ways : List ℕ) (s : ℕ) → IsAt a cells at ways (replicate (length ways) s) None → Tells at.begun IsMatching
+      → t.origin ≡ Earlier → (next : List ℕ) × IsAt a cells (stood past t) next (replicate (length next) s) (Some (record { start = s; end = at.place }))
+  found_earlier ways s is told e =
       let there = cell_there cells.cells.items t.cell told.0.stands in
       let some = some_of there.0.matched (told.1 there.0 there.1) in
       let starts = replicate (length ways) s in
       let come = subst (λ (o : Option ℕ). IfSome o (λ f. f < length (ways ++ a.code.now.start ∷ []) - 1)) some.1
-      (earlier_found a cells at ways starts None at.begun byte c t there.0 r.before r.here r.column is refl told.0 there.1 e) in
-      keeps_start a cells at ways s (Some (record { start = s; end = at.place })) t there.0.matched
-      (matching a cells at ways starts None at.begun byte c t there.0 r.before r.here r.column is refl told.0 there.1 some.0 s some.1
+      (earlier_found a cells at ways starts None at.begun past asked t there.0 sees is refl told.0 there.1 e) in
+      keeps_start a cells at ways s (Some (record { start = s; end = at.place })) past t there.0.matched
+      (matching a cells at ways starts None at.begun past asked t there.0 sees is refl told.0 there.1 some.0 s some.1
       (earlier_began ways a.code.now.start s at.place some.0 come)) e
 
-  pub found_last : (ways starts : List ℕ) (is : IsAt a cells at ways starts None) → Reads a cells at at.begun byte c → Tells at.begun is.begins.0 IsMatching
-      → t.origin ≡ Last → (next : List ℕ) × IsAt a cells (stood at t) next (replicate (length next) at.place) (Some (record { start = at.place; end = at.place }))
-  found_last ways starts is r told e =
+  pub found_last : (ways starts : List ℕ) → IsAt a cells at ways starts None → Tells at.begun IsMatching
+      → t.origin ≡ Last → (next : List ℕ) × IsAt a cells (stood past t) next (replicate (length next) at.place) (Some (record { start = at.place; end = at.place }))
+  found_last ways starts is told e =
       let there = cell_there cells.cells.items t.cell told.0.stands in
       let some = some_of there.0.matched (told.1 there.0 there.1) in
       let come = subst (λ (o : Option ℕ). IfSome o (λ f. f ≡ length (ways ++ a.code.now.start ∷ []) - 1)) some.1
-      (last_found a cells at ways starts None at.begun byte c t there.0 r.before r.here r.column is refl told.0 there.1 e) in
-      starts_here a cells at ways 0 (Some (record { start = at.place; end = at.place })) t there.0.matched starts is.going.even
-      (matching a cells at ways starts None at.begun byte c t there.0 r.before r.here r.column is refl told.0 there.1 some.0 at.place some.1
+      (last_found a cells at ways starts None at.begun past asked t there.0 sees is refl told.0 there.1 e) in
+      starts_here a cells at ways 0 (Some (record { start = at.place; end = at.place })) past t there.0.matched starts is.going.even
+      (matching a cells at ways starts None at.begun past asked t there.0 sees is refl told.0 there.1 some.0 at.place some.1
       (last_began ways starts a.code.now.start at.place some.0 is.going.even come)) e
 
 -- where no way waits, they began anywhere

@@ -6,12 +6,10 @@ use Rattle.std.proofs.lemmas.List.{length-replicate}
 use Rattle.std.proofs.lemmas.Option.{get_or_from_slice_get}
 use Rattle.fancy_code.specs.declared.attempt.Attempt.{Attempt}
 use Rattle.fancy_code.specs.Attempt.{context_in, instrs_in, may_end_in}
-use Rattle.fancy_alphabet.specs.Classes.{IsStart, sight_for}
-use Rattle.fancy_alphabet.specs.Sides.{seen_as}
+use Rattle.fancy_alphabet.specs.Classes.{IsStart}
 use Rattle.fancy_alphabet.specs.Units.{place_after}
 use Rattle.fancy_meaning.specs.Reading.{unit_read}
 use Rattle.fancy_alphabet.specs.declared.sight.Sight.{Sight}
-use Rattle.fancy_alphabet.proofs.SightLemmas.{like_ascii}
 use Rattle.fancy_states.specs.declared.cells.Cell.{Cell}
 use Rattle.fancy_states.specs.declared.cells.Cells.{Cells}
 use Rattle.fancy_automaton.specs.declared.follow.Sole.{Sole}
@@ -30,56 +28,50 @@ use Rattle.fancy_states.proofs.CellLemmas.{row_of, row_ways, row_within}
 use Rattle.fancy_automaton.proofs.DecidedLemmas.{Advanced, advanced, end_in, retag, retag_end, retag_first, retag_or}
 use Rattle.fancy_automaton.proofs.GoingLemmas.{passed_none}
 use Rattle.fancy_states.proofs.SearchLemmas.{under_none}
-use Rattle.fancy_automaton.proofs.HopLemmas.{ascii_leads, column_low, start_after}
-use Rattle.fancy_automaton.proofs.SoleLemmas.{Reads, Tells, cell_there, some_of}
+use Rattle.fancy_automaton.specs.Told.{Sees}
+use Rattle.fancy_automaton.proofs.SoleLemmas.{Tells, cell_there, some_of}
 
 -- A step of the table was taken, after which the match ends at `later`.
-pub record Walked (a : Attempt) (cells : Cells) (at : Stand) (t : Transition) (end later : Option ℕ) : Type 0 where
+pub record Walked (a : Attempt) (cells : Cells) (at : Stand) (past : ℕ) (t : Transition) (end later : Option ℕ) : Type 0 where
   pub row : t.next < length cells.rows.lists.items
-  pub placed : IsPlaced a cells (stood at t)
-  pub starts : IsStart (context_in a) (at.place + 1) cells.table.classes t.next t.ahead
-  pub opens : Opens a cells (stood at t)
+  pub placed : IsPlaced a cells (stood past t)
+  pub starts : IsStart (context_in a) past cells.table.classes t.next t.ahead
+  pub opens : Opens a cells (stood past t)
   pub decided : (goal : Goal) (start : ℕ) → Decided a goal start (ways_at cells.rows.lists.items at.next) end at.place
-      → Decided a goal start (ways_at cells.rows.lists.items t.next) later (at.place + 1)
+      → Decided a goal start (ways_at cells.rows.lists.items t.next) later past
 
-module _ (a : Attempt) (cells : Cells) (at : Stand) (row byte c : ℕ) (t : Transition) (followed : IsFollowed a) (holds : HoldsFor cells a.code.now)
-    (low : at.next < length cells.rows.lists.items) (placed : IsPlaced a cells at) (starts : IsStart (context_in a) at.place cells.table.classes at.next row)
-    (r : Reads a cells at at.next byte c) where
-  walked : (told : IsTransition cells.table.classes cells.cells.items at.next (sight_for cells.table.classes (seen_as cells.table.classes.tests starts.0) byte) t) (d : Cell)
-      → slice_get cells.cells.items t.cell ≡ Some d → (end later : Option ℕ) → later ≡ later_end d.matched end at.place → Walked a cells at t end later
+module _ (a : Attempt) (cells : Cells) (at : Stand) (past : ℕ) (asked : Sight) (t : Transition) (sees : Sees a cells.table.classes at.place past asked) (followed : IsFollowed a)
+    (holds : HoldsFor cells a.code.now) (low : at.next < length cells.rows.lists.items) (placed : IsPlaced a cells at) where
+  walked : (told : IsTransition cells.table.classes cells.cells.items at.next asked t) (d : Cell)
+      → slice_get cells.cells.items t.cell ≡ Some d → (end later : Option ℕ) → later ≡ later_end d.matched end at.place → Walked a cells at past t end later
   walked told d there end later same =
-      let classes = cells.table.classes in
       let rows = cells.rows.lists.items in
       let p = at.place in
-      let asked = sight_for classes (seen_as classes.tests starts.0) byte in
-      let small = column_low classes byte c r.column in
-      let like = like_ascii a p classes holds.all.1 starts.0 byte starts.1 small r.before r.here in
+      let like = sees.like in
       let moved = advanced a cells cells at.next p asked t.cell d followed placed.within placed.good low like holds (λ n v e. e)
       (d, there, told.from d there, told.on d there) (sym (get_or_from_slice_get cells.cells.items t.cell d d there)) in
       let next : d.next ≡ t.next = told.next d there in
+      let width : place_after p (option_map unit_read asked.reading) ≡ past = like.width ∙ sees.width in
       record {
         row = subst (λ (n : ℕ). n < length rows) next moved.row_there;
-        placed = record {
-          begins = start_after a classes p byte t.begun t.opened holds.all.1 small r.here told.opened;
-          good = ascii_leads a p byte r.before small r.here followed.steady placed.good;
-          within = omega (arith, r.before);
-        };
-        starts = start_after a classes p byte t.next t.ahead holds.all.1 small r.here told.ahead;
+        placed = record { begins = sees.begins t.begun t.opened told.opened; good = sees.good; within = sees.within };
+        starts = sees.begins t.next t.ahead told.ahead;
         opens = subst (λ (n : ℕ). HasRow rows t.begun (ways_at rows n ++ a.code.now.start ∷ [])) next
             (subst (λ (n : ℕ). HasRow rows n (ways_at rows d.next ++ a.code.now.start ∷ [])) (told.begun d there) moved.opens);
         decided = λ goal start is.
-            subst (λ (o : Option ℕ). Decided a goal start (ways_at rows t.next) o (p + 1)) (sym same)
-            (subst (λ (n : ℕ). Decided a goal start (ways_at rows n) (later_end d.matched end p) (p + 1)) next (moved.decided goal start end is));
+            subst (λ (o : Option ℕ). Decided a goal start (ways_at rows t.next) o past) (sym same)
+            (subst (λ (q : ℕ). Decided a goal start (ways_at rows t.next) (later_end d.matched end p) q) width
+            (subst (λ (n : ℕ). Decided a goal start (ways_at rows n) (later_end d.matched end p) (place_after p (option_map unit_read asked.reading))) next (moved.decided goal start end is)));
       }
 
   -- no match ends there
-  pub walked_quiet : Tells a cells at byte c t at.next starts.0 IsQuiet → (end : Option ℕ) → Walked a cells at t end end
+  pub walked_quiet : Tells a cells at past asked t sees at.next IsQuiet → (end : Option ℕ) → Walked a cells at past t end end
   walked_quiet told end =
       let there = cell_there cells.cells.items t.cell told.0.stands in
       walked told.0 there.0 there.1 end end (sym (ap (λ (o : Option ℕ). later_end o end at.place) (told.1 there.0 there.1)))
 
   -- one does
-  pub walked_found : Tells a cells at byte c t at.next starts.0 IsMatching → (end : Option ℕ) → Walked a cells at t end (Some at.place)
+  pub walked_found : Tells a cells at past asked t sees at.next IsMatching → (end : Option ℕ) → Walked a cells at past t end (Some at.place)
   walked_found told end =
       let there = cell_there cells.cells.items t.cell told.0.stands in
       let some = some_of there.0.matched (told.1 there.0 there.1) in

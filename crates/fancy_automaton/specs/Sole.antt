@@ -1,5 +1,5 @@
 -- A search whose ways that wait all began at one place.
-use Rattle.std.specs.Prelude.{◌≡◌, ◌+◌, ◌≤◌, ℕ, true, List, ◌∷◌, ◌++◌, [], Option, None, Some, length, replicate}
+use Rattle.std.specs.Prelude.{◌≡◌, ◌≤◌, ℕ, true, List, ◌∷◌, ◌++◌, [], Option, None, Some, length, replicate}
 use Rattle.fancy_input.specs.declared.span.Span.{Span}
 use Rattle.fancy_code.specs.declared.attempt.Attempt.{Attempt}
 use Rattle.fancy_code.specs.Attempt.{context_in, may_end_in}
@@ -12,14 +12,14 @@ use Rattle.fancy_states.specs.Trail.{match_from}
 use Rattle.fancy_states.specs.Cells.{IsBounded, IsFor, HasRow}
 use Rattle.fancy_states.specs.Search.{Going, IsFollowed}
 
--- where a step of the table leads
-abbrev pub stood : Stand → Transition → Stand
-stood at t = record { place = at.place + 1; next = t.next; begun = t.begun; opened = t.opened }
+-- where a step of the table leads, up to a place
+abbrev pub stood : ℕ → Transition → Stand
+stood place t = record { place = place; next = t.next; begun = t.begun; opened = t.opened }
 
 -- where it stands after the last step that it took, if it took one, but for the place
 abbrev pub left_at : Stand → Option Transition → Stand
 left_at from None = from
-left_at from (Some t) = stood from t
+left_at from (Some t) = stood from.place t
 
 -- where it stands at a place
 abbrev pub came_to : Stand → ℕ → Option Transition → Stand

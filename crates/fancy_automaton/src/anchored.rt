@@ -156,7 +156,7 @@ fn advance(
     if is_idle(cells, to.stand) {
         return Ok(to);
     }
-    Ok(lengthen(attempt, cells, to))
+    Ok(lengthen(attempt, cells, to, true))
 }
 
 /// Where the match begins and ends that begins at the first place, if there is one, as far as steps tell that are remembered. `None`
@@ -187,7 +187,7 @@ pub(crate) fn span_told(attempt: &Attempt, cells: &Cells) -> Option<Option<Span>
         start: place,
         end: None,
     };
-    let to = lengthen(attempt, cells, from);
+    let to = lengthen(attempt, cells, from, false);
     if !is_idle(cells, to.stand) {
         return None;
     }
@@ -234,7 +234,7 @@ pub(crate) fn span_at(
         start: place,
         end: None,
     };
-    let mut at = lengthen(attempt, cells, from);
+    let mut at = lengthen(attempt, cells, from, true);
     'places: loop {
         if is_idle(cells, at.stand) {
             cells.reached = at.stand.place;

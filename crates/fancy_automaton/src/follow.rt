@@ -9,6 +9,7 @@ ghost use Rattle.fancy_automaton.specs.Sole.{IsAmid, IsSole, Reaches, came_to};
 ghost use Rattle.fancy_automaton.specs.Decided.{Goal, IsDecided, IsPlaced, Opens};
 
 use crate::hop::{Stand, ahead_of, idle_row, row_start, stand_after};
+use crate::told::told_at;
 use fancy_code::attempt::Attempt;
 use fancy_meaning::options::is_match_boundary;
 use fancy_prefilter::candidates::next_candidate;
@@ -110,9 +111,21 @@ fn came_to(from: Stand, place: usize, last: Option<&Transition>) -> Stand
     }
 }
 
+/// Whether a match may start at a place, by its byte.
+#[inline(always)]
+fn may_start(attempt: &Attempt, place: usize) -> bool
+    requires { attempt.now.last ≤ length attempt.now.haystack.now }
+{
+    match &attempt.code.prefilter.starts {
+        None => true,
+        Some(starts) => place < attempt.last && starts.contains(attempt.haystack[place]),
+    }
+}
+
 /// Goes on until a match is found, or ways wait that began at several places. Where no way waits at two places in a row, it is
-/// left to a scan to find the next place.
-fn seek(attempt: &Attempt, cells: &Cells, from: Sole, idle: usize) -> Sole
+/// left to a scan to find the next place. Past ASCII, where a step costs more, that is so where none waits and none may start.
+#[inline(always)]
+fn seek(attempt: &Attempt, cells: &Cells, from: Sole, idle: usize, any: bool) -> Sole
     requires idle { IsIdle cells.now.rows.lists.items idle }
     requires sole { IsSole attempt.now cells.now from }
     requires nothing { from.end ≡ None }
@@ -120,35 +133,30 @@ fn seek(attempt: &Attempt, cells: &Cells, from: Sole, idle: usize) -> Sole
     ensures nothing { result.end ≡ None }
 {
     let table = cells.table.view();
-    let haystack = attempt.haystack;
     let mut place = from.stand.place;
     let mut row = from.stand.opened;
     let mut start = from.start;
     let mut last = None;
     'places: while place < attempt.last {
-        let Some(column) = table.column(haystack[place]) else {
+        let Some(told) = told_at(attempt, table, row, place, any) else {
             break 'places;
         };
-        let Some(entry) = table.entry(row, column) else {
+        let Entry::Quiet(step) = told.entry else {
             break 'places;
         };
-        let Entry::Quiet(step) = entry else {
-            break 'places;
-        };
+        let mut ends = false;
         match step.origin {
-            Origin::Mixed => {
-                if step.next as usize == idle {
-                    place += 1;
-                    last = Some(step);
-                }
-                break 'places;
-            }
+            Origin::Mixed if step.next as usize != idle => break 'places,
+            Origin::Mixed => ends = !any || !may_start(attempt, told.past),
             Origin::Last => start = place,
             Origin::Earlier => {}
         }
         row = step.opened;
-        place += 1;
+        place = told.past;
         last = Some(step);
+        if ends {
+            break 'places;
+        }
     }
     Sole {
         stand: came_to(from.stand, place, last),
@@ -159,6 +167,7 @@ fn seek(attempt: &Attempt, cells: &Cells, from: Sole, idle: usize) -> Sole
 
 /// The next place at which all ways that wait began at one place again, if the table leads there with nothing found, and within as
 /// many places as a trail has: those are passed once more with a trail where it does not. So no place is passed many times.
+#[inline(always)]
 fn hunt(attempt: &Attempt, cells: &Cells, from: Stand, idle: usize) -> Option<Sole>
     requires idle { IsIdle cells.now.rows.lists.items idle }
     requires amid { IsAmid attempt.now cells.now from }
@@ -166,16 +175,15 @@ fn hunt(attempt: &Attempt, cells: &Cells, from: Stand, idle: usize) -> Option<So
     ensures nothing { IfSome result (λ s. s.end ≡ None) }
 {
     let table = cells.table.view();
-    let haystack = attempt.haystack;
     let limit = attempt.last.min(from.place.saturating_add(VISITS));
     let mut at = from;
     'places: while at.place < limit {
-        let column = table.column(haystack[at.place])?;
-        let Entry::Quiet(step) = table.at(at.opened, column) else {
+        let told = told_at(attempt, table, at.opened, at.place, false)?;
+        let Entry::Quiet(step) = *told.entry else {
             return None;
         };
         let sole = Sole {
-            stand: stand_after(at, step),
+            stand: stand_after(told.past, step),
             start: at.place,
             end: None,
         };
@@ -191,6 +199,7 @@ fn hunt(attempt: &Attempt, cells: &Cells, from: Stand, idle: usize) -> Option<So
 }
 
 /// The next place at which a match may begin, if no way waits and nothing was found.
+#[inline(always)]
 fn skip(attempt: &Attempt, cells: &Cells, from: Sole, idle: usize) -> Option<Sole>
     requires idle { IsIdle cells.now.rows.lists.items idle }
     requires sole { IsSole attempt.now cells.now from }
@@ -213,6 +222,7 @@ fn skip(attempt: &Attempt, cells: &Cells, from: Sole, idle: usize) -> Option<Sol
 
 /// The next place at which all ways that wait began at one place again, or if none waits there, the one after it at which a match may
 /// begin.
+#[inline(always)]
 fn onward(attempt: &Attempt, cells: &Cells, from: Stand, idle: usize) -> Option<Sole>
     requires idle { IsIdle cells.now.rows.lists.items idle }
     requires amid { IsAmid attempt.now cells.now from }
@@ -224,7 +234,8 @@ fn onward(attempt: &Attempt, cells: &Cells, from: Stand, idle: usize) -> Option<
 }
 
 /// The step at a place where a match is found, or on past ways that began at several places, and places where none waits.
-fn past(attempt: &Attempt, cells: &Cells, at: Sole, idle: usize) -> Option<Sole>
+#[inline(always)]
+fn past(attempt: &Attempt, cells: &Cells, at: Sole, idle: usize, any: bool) -> Option<Sole>
     requires idle { IsIdle cells.now.rows.lists.items idle }
     requires sole { IsSole attempt.now cells.now at }
     requires nothing { at.end ≡ None }
@@ -233,9 +244,15 @@ fn past(attempt: &Attempt, cells: &Cells, at: Sole, idle: usize) -> Option<Sole>
     if at.stand.place >= attempt.last {
         return None;
     }
+    if any && at.stand.next == idle && !may_start(attempt, at.stand.place) {
+        let next = skip(attempt, cells, at, idle)?;
+        if next.stand.place > at.stand.place {
+            return Some(next);
+        }
+    }
     let table = cells.table.view();
-    let column = table.column(attempt.haystack[at.stand.place])?;
-    let step = match table.at(at.stand.opened, column) {
+    let told = told_at(attempt, table, at.stand.opened, at.stand.place, any)?;
+    let step = match *told.entry {
         Entry::Unknown => return None,
         Entry::Quiet(_) => return onward(attempt, cells, at.stand, idle),
         Entry::Matching(step) => step,
@@ -246,16 +263,16 @@ fn past(attempt: &Attempt, cells: &Cells, at: Sole, idle: usize) -> Option<Sole>
         Origin::Earlier => at.start,
     };
     Some(Sole {
-        stand: stand_after(at.stand, step),
+        stand: stand_after(told.past, step),
         start,
         end: Some(at.stand.place),
     })
 }
 
 /// Goes on where no way begins any more: after a match was found, and where a search is anchored. Where no way waits the table tells
-/// no step, since none is asked there.
+/// no step, since none is asked there. Characters past ASCII are read where `any` says so.
 #[inline(always)]
-pub(crate) fn lengthen(attempt: &Attempt, cells: &Cells, from: Sole) -> Sole
+pub(crate) fn lengthen(attempt: &Attempt, cells: &Cells, from: Sole, any: bool) -> Sole
     requires followed { IsFollowed attempt.now }
     requires kept { HoldsFor cells.now attempt.now.code.now }
     requires row { from.stand.next < length cells.now.rows.lists.items }
@@ -270,19 +287,15 @@ pub(crate) fn lengthen(attempt: &Attempt, cells: &Cells, from: Sole) -> Sole
         → Opens attempt.now cells.now result.stand }
 {
     let table = cells.table.view();
-    let haystack = attempt.haystack;
     let mut place = from.stand.place;
     let mut row = ahead_of(attempt, cells, from.stand);
     let mut end = from.end;
     let mut last = None;
     'places: while place < attempt.last {
-        let Some(column) = table.column(haystack[place]) else {
+        let Some(told) = told_at(attempt, table, row, place, any) else {
             break 'places;
         };
-        let Some(entry) = table.entry(row, column) else {
-            break 'places;
-        };
-        let step = match entry {
+        let step = match told.entry {
             Entry::Unknown => break 'places,
             Entry::Quiet(step) => step,
             Entry::Matching(step) => {
@@ -291,7 +304,7 @@ pub(crate) fn lengthen(attempt: &Attempt, cells: &Cells, from: Sole) -> Sole
             }
         };
         row = step.ahead;
-        place += 1;
+        place = told.past;
         last = Some(step);
     }
     Sole {
@@ -301,16 +314,17 @@ pub(crate) fn lengthen(attempt: &Attempt, cells: &Cells, from: Sole) -> Sole
     }
 }
 
-/// Takes steps that the table tells, on ASCII characters, as long as all ways that wait began at one place.
-pub(crate) fn follow(attempt: &Attempt, cells: &Cells, from: Sole) -> Sole
+/// Takes steps that the table tells, as long as all ways that wait began at one place. Characters past ASCII are read where `any` says so.
+#[inline(always)]
+fn follow_by(attempt: &Attempt, cells: &Cells, from: Sole, any: bool) -> Sole
     requires sole { IsSole attempt.now cells.now from }
     ensures reaches { Reaches attempt.now cells.now from.stand.place result }
 {
     let idle = idle_row(cells);
     let mut at = from;
     'places: while at.end.is_none() {
-        at = seek(attempt, cells, at, idle);
-        match past(attempt, cells, at, idle) {
+        at = seek(attempt, cells, at, idle, any);
+        match past(attempt, cells, at, idle, any) {
             None => return at,
             Some(next) => at = next,
         }
@@ -318,5 +332,23 @@ pub(crate) fn follow(attempt: &Attempt, cells: &Cells, from: Sole) -> Sole
     if at.stand.next == idle {
         return at;
     }
-    lengthen(attempt, cells, at)
+    lengthen(attempt, cells, at, any)
+}
+
+/// The same on ASCII characters alone, for which the loops need fewer registers.
+#[inline(never)]
+pub(crate) fn follow(attempt: &Attempt, cells: &Cells, from: Sole) -> Sole
+    requires sole { IsSole attempt.now cells.now from }
+    ensures reaches { Reaches attempt.now cells.now from.stand.place result }
+{
+    follow_by(attempt, cells, from, false)
+}
+
+/// The same on any characters.
+#[inline(never)]
+pub(crate) fn follow_any(attempt: &Attempt, cells: &Cells, from: Sole) -> Sole
+    requires sole { IsSole attempt.now cells.now from }
+    ensures reaches { Reaches attempt.now cells.now from.stand.place result }
+{
+    follow_by(attempt, cells, from, true)
 }

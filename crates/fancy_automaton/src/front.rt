@@ -13,8 +13,9 @@ ghost use Rattle.fancy_automaton.specs.Sole.{IsSole};
 ghost use Rattle.fancy_alphabet.specs.Units.{place_after};
 ghost use Rattle.fancy_states.specs.Counts.{AddsSteps};
 
-use crate::follow::{Sole, follow, next_place};
+use crate::follow::{Sole, follow, follow_any, next_place};
 use crate::hop::{Stand, row_start, run};
+use crate::told::is_wide_at;
 use fancy_alphabet::sight::{Sight, ascii_at};
 use fancy_code::attempt::Attempt;
 use fancy_code::code::Code;
@@ -22,7 +23,7 @@ use fancy_input::span::Span;
 use fancy_input::work::Work;
 use fancy_meaning::options::is_match_boundary;
 use fancy_meaning::reading::Reading;
-use fancy_states::cells::{Cells, is_told, remembered, restart, seen_at, step_at};
+use fancy_states::cells::{Cells, is_told, restart, seen_at, step_at};
 use fancy_states::trail::{
     Hit, Trail, VISITS, Visit, hit_from, note_hit, row_at, settled, shared_start, span_of,
     start_at, starts_in,
@@ -226,51 +227,6 @@ impl Front {
         Ok(resume)
     }
 
-    /// Takes the step at a place if no ASCII character is read there, the step is remembered, and the trail has room for it. The
-    /// answer is the place where the ways wait then, a byte offset; it is the same place where no step was taken.
-    fn glide(&mut self, attempt: &Attempt, cells: &Cells, place: usize) -> Result<usize, AllocError>
-        requires stands { Stands attempt.now cells.now self.old place }
-        ensures { GoesOn attempt.now cells.now self.old place (attempt.now.last + 1)
-            result self.new }
-    {
-        if ascii_at(attempt, place).is_some() || self.trail.visits.len() >= VISITS {
-            return Ok(place);
-        }
-        let row = row_at(self.hit, self.next, self.begun);
-        let start = start_at(self.hit, place);
-        let sight = seen_at(attempt, cells, place);
-        let Some(k) = remembered(cells, row, sight) else {
-            return Ok(place);
-        };
-        let cell = &cells.cells[k];
-        note_hit(&mut self.hit, cell.matched, self.trail.visits.len(), place);
-        self.next = cell.next;
-        self.begun = cell.begun;
-        self.trail.visits.push(Visit { cell: k, start })?;
-        Ok(place_after(place, sight.reading, attempt.last))
-    }
-
-    /// Takes steps that are remembered, on characters past ASCII, as long as some way waits. The answer is the place where the ways
-    /// wait then, a byte offset. What is read leads from a place where a match may begin and end to the next, so no place is tested on the way.
-    fn skim(&mut self, attempt: &Attempt, cells: &Cells, place: usize) -> Result<usize, AllocError>
-        requires stands { Stands attempt.now cells.now self.old place }
-        ensures { GoesOn attempt.now cells.now self.old place (attempt.now.last + 1)
-            result self.new }
-    {
-        let mut at = place;
-        'places: loop {
-            let next = self.glide(attempt, cells, at)?;
-            if next == at {
-                return Ok(at);
-            }
-            at = next;
-            if !self.has_waiting(cells) {
-                self.forget_idle(cells);
-                return Ok(at);
-            }
-        }
-    }
-
     /// Where the search stands at a place.
     fn stand(&self, attempt: &Attempt, cells: &Cells, place: usize) -> Stand
         requires place { place ≤ length attempt.now.haystack.now }
@@ -321,7 +277,11 @@ impl Front {
         let Some(sole) = self.sole(attempt, cells, place) else {
             return Ok(place);
         };
-        let to = follow(attempt, cells, sole);
+        let to = if is_wide_at(attempt, place) {
+            follow_any(attempt, cells, sole)
+        } else {
+            follow(attempt, cells, sole)
+        };
         self.rest(cells, to)?;
         Ok(to.stand.place)
     }
@@ -345,9 +305,6 @@ impl Front {
         requires stands { Stands attempt.now cells.now self.old place }
         ensures { GoesOn attempt.now cells.now self.old place attempt.now.last result self.new }
     {
-        if ascii_at(attempt, place).is_none() {
-            return Ok(place);
-        }
         let followed = self.follow(attempt, cells, place)?;
         if followed > place {
             return Ok(followed);
@@ -374,10 +331,6 @@ impl Front {
         let hopped = self.hop(attempt, cells, place)?;
         if hopped > place {
             return Ok(hopped);
-        }
-        let skimmed = self.skim(attempt, cells, place)?;
-        if skimmed > place {
-            return Ok(skimmed);
         }
         let resume = self.advance(attempt, cells, place, work)?;
         Ok(resume)

@@ -1,4 +1,4 @@
-//! The inner loop of a search: steps on ASCII characters, by the table.
+//! The inner loop of a search: steps by the table.
 
 ghost use Rattle.std.specs.Prelude.{◌≡◌, ◌<◌, ◌≤◌, ℕ, List, Some, None, IfOk, IfSome, length, slice_get};
 ghost use Rattle.fancy_code.specs.Attempt.{context_in};
@@ -12,6 +12,7 @@ ghost use Rattle.fancy_states.specs.Transitions.{IsEntry, IsTransition};
 ghost use Rattle.fancy_alphabet.specs.declared.sight.Sight.{Sight};
 ghost use Rattle.fancy_states.specs.declared.cells.Cell.{Cell};
 
+use crate::told::told_at;
 use fancy_code::attempt::Attempt;
 use fancy_states::cells::Cells;
 use fancy_states::trail::{Hit, Trail, VISITS, Visit, note_hit, start_at};
@@ -92,26 +93,25 @@ pub(crate) fn idle_row(cells: &Cells) -> usize
     requires { IsBounded cells.now }
     ensures { IsIdle cells.now.rows.lists.items result }
 {
-    match cells.rows.lists.get(cells.nothing) {
+    match cells.rows.lists.get(cells.rows.nothing) {
         None => usize::MAX,
         Some(ways) => {
             if ways.len() > 0 {
                 usize::MAX
             } else {
-                cells.nothing
+                cells.rows.nothing
             }
         }
     }
 }
 
-/// Where a step of the table leads.
+/// Where a step of the table leads, up to a place.
 #[inline(always)]
-pub(crate) fn stand_after(at: Stand, step: Transition) -> Stand
-    requires { at.place < usize.MAX }
-    ensures { result ≡ stood at step }
+pub(crate) fn stand_after(place: usize, step: Transition) -> Stand
+    ensures { result ≡ stood place step }
 {
     Stand {
-        place: at.place + 1,
+        place,
         next: step.next as usize,
         begun: step.begun as usize,
         opened: step.opened,
@@ -136,7 +136,7 @@ fn leaves(at: Stand, idle: usize, hit: Option<Hit>, searches: bool) -> bool {
     at.next == idle || hit.is_none() != searches
 }
 
-/// Takes steps that the table tells, on ASCII characters, until the trail has no more room, or no match can begin nor
+/// Takes steps that the table tells, until the trail has no more room, or no match can begin nor
 /// go on: there it is for a scan to find the next place. Each place that it comes to is one where a match may begin and end.
 #[inline(never)]
 pub(crate) fn run(
@@ -165,14 +165,12 @@ pub(crate) fn run(
     let searches = hit.is_none();
     let mut ends = false;
     'places: while at.place < end && !ends {
-        let byte = attempt.haystack[at.place];
         let start = start_at(*hit, at.place);
-        let Some(column) = table.column(byte) else {
+        let Some(told) = told_at(attempt, table, row, at.place, true) else {
             return Ok(at);
         };
-        let entry = table.at(row, column);
         let visits = trail.visits.len();
-        let Some(step) = step_of(entry, cells, hit, visits, at.place) else {
+        let Some(step) = step_of(*told.entry, cells, hit, visits, at.place) else {
             return Ok(at);
         };
         trail.visits.push(Visit {
@@ -180,7 +178,7 @@ pub(crate) fn run(
             start,
         })?;
         row = start_of_row(*hit, step.ahead, step.opened);
-        at = stand_after(at, step);
+        at = stand_after(told.past, step);
         ends = leaves(at, idle, *hit, searches);
     }
     Ok(at)

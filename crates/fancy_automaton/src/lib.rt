@@ -2,8 +2,8 @@
 //!
 //! At a place of the haystack a row of instructions waits, the preferred one first. A step follows each of them to the
 //! instructions that read an item, and leads to the row of those that go on after the item that is there. A step is
-//! computed once for a row and what is seen, the item and both sides of the place. It is remembered in a cell, to which on ASCII
-//! characters a table leads. Of those that no instruction tells apart one stands for all. As long as nothing was found, one more
+//! computed once for a row and what is seen, the item and both sides of the place. It is remembered in a cell, to which a table leads.
+//! Of ASCII characters that no instruction tells apart one stands for all. As long as nothing was found, one more
 //! way begins at each place, as the last one of its row.
 //!
 //! The code of `a|ab` begins with a split. The row at 0 of `ab` is that instruction alone. On `a` the step leads to the row of
@@ -19,3 +19,4 @@ pub mod follow;
 pub mod front;
 pub mod hop;
 pub mod search;
+mod told;

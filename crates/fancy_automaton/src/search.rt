@@ -17,8 +17,9 @@ ghost use Rattle.fancy_states.specs.Counts.{AddsSteps};
 ghost use Rattle.fancy_automaton.specs.Sole.{IsSole};
 
 use crate::anchored::{span_at, span_told};
-use crate::follow::{Sole, follow, next_place};
+use crate::follow::{Sole, follow, follow_any, next_place};
 use crate::front::Front;
+use crate::told::is_wide_at;
 use fancy_code::attempt::Attempt;
 use fancy_code::code::Code;
 use fancy_code::found::Found;
@@ -90,7 +91,13 @@ fn find_span(
         cells.reached = place;
         return Ok(None);
     }
-    let to = follow(attempt, cells, Sole::new(attempt, cells, origin, place));
+    let mut to = Sole::new(attempt, cells, origin, place);
+    if !is_wide_at(attempt, place) {
+        to = follow(attempt, cells, to);
+    }
+    if is_wide_at(attempt, to.stand.place) && !to.is_over(cells) {
+        to = follow_any(attempt, cells, to);
+    }
     if to.is_over(cells) {
         cells.reached = to.stand.place;
         return Ok(span_from(to.start, to.end));

@@ -1,6 +1,5 @@
 //! For which patterns the automaton is worth its steps.
 
-use fancy_alphabet::side::Tests;
 use fancy_code::code::{Code, Instr};
 use fancy_prefilter::branches::WIDE;
 use fancy_prefilter::prefilter::Prefilter;
@@ -97,20 +96,12 @@ pub(crate) fn is_worth_following(code: &Code) -> bool {
     is_told_little(code) || opens_wide(code)
 }
 
-/// The fewest bytes that a search alone, or the first of a list, goes over where the automaton serves it. Where the code tests
-/// places, characters past ASCII are read three times at each, so texts of such are left to the runner.
+/// The fewest bytes that a search alone, or the first of a list, goes over where the automaton serves it.
 pub(crate) fn shortest_followed(code: &Code) -> Lengths {
     let is_wide = opens_wide(code);
-    let tests = Tests::of_code(code) != Tests::Nothing;
     Lengths {
         ascii: if is_wide { SHORT_WIDE } else { SHORT },
-        any: if tests {
-            usize::MAX
-        } else if is_wide {
-            SHORT_WIDE
-        } else {
-            SHORT_OTHER
-        },
+        any: if is_wide { SHORT_WIDE } else { SHORT_OTHER },
     }
 }
 

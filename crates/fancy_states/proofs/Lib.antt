@@ -12,3 +12,4 @@ pub mod CellLemmas
 pub mod TrailLemmas
 pub mod TransitionLemmas
 pub mod RememberedLemmas
+pub mod SlotLemmas

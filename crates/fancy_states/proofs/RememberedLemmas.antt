@@ -17,7 +17,8 @@ use Rattle.std.proofs.lemmas.Bool.Decides.{nat_tests}
 use Rattle.fancy_states.specs.declared.origin.Origin.{Origin}
 use Rattle.fancy_states.specs.declared.origin.Origin.TheVariants.{Earlier, Last, Mixed}
 use Rattle.fancy_states.specs.Origins.{ComeFrom, come_from, match_passes}
-use Rattle.fancy_states.specs.Cells.{HasRow, IsCellOf, IsFor, ways_at}
+use Rattle.std.proofs.Props.{props}
+use Rattle.fancy_states.specs.Cells.{HasRow, IsBounded, IsCellOf, IsFor, ways_at}
 use Rattle.fancy_states.specs.Remembered.{ways_from, IsKnownAt, IsStepEach, IsRemembered, Remembers}
 use Rattle.fancy_states.proofs.CellLemmas.{row_ways, row_within}
 
@@ -143,3 +144,7 @@ remembers a code all = (λ k d lt. remembered code a.rows.lists.items (get_or a.
 
 pub recalls : (a : Cells) (code : Code) → Remembers a code → IsFor a code
 recalls a code all = (λ k d lt. recalled code a.rows.lists.items (get_or a.cells.items k d) (all.0 k d lt), all.1)
+
+-- so a struct may keep it as a fact, and that no more is remembered than may be
+pub remembers_once : (a : Cells) (code : Code) → IsProp (Remembers a code × IsBounded a)
+remembers_once a code = hlevel props

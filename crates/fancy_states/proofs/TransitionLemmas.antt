@@ -9,6 +9,10 @@ use Rattle.fancy_states.specs.declared.transitions.Transition.{Transition}
 use Rattle.fancy_states.specs.declared.transitions.Entry.{Entry}
 use Rattle.fancy_states.specs.declared.transitions.Entry.TheVariants.{Unknown, Quiet, Matching}
 use Rattle.fancy_states.specs.declared.transitions.Transitions.{Transitions}
+use Rattle.fancy_states.specs.declared.slots.Slot.{Slot}
+use Rattle.fancy_states.specs.declared.slots.Slots.{Slots}
+use Rattle.fancy_states.specs.Slots.{ComeFrom, IsIn, blank}
+use Rattle.std.specs.Global.{Vec}
 use Rattle.fancy_alphabet.specs.declared.classes.Classes.{Classes}
 use Rattle.std.proofs.lemmas.Nat.{div-mul-add}
 use Rattle.fancy_alphabet.specs.Classes.{IsColumn, first_of, member_of, member_or, row_start, sight_for, sight_of}
@@ -23,7 +27,7 @@ use Rattle.fancy_alphabet.specs.Classes.{AreClasses}
 use Rattle.fancy_states.specs.declared.cells.Cells.{Cells}
 use Rattle.fancy_states.specs.Cells.{GrowsBy, HasPlace, HoldsFor, IsCell, IsFor, KeepsCells}
 use Rattle.fancy_states.proofs.CellLemmas.{cells_more, grown}
-use Rattle.fancy_states.specs.Transitions.{AreTold, IsEntry, IsTransition, entry_at}
+use Rattle.fancy_states.specs.Transitions.{AreTold, IsEntry, IsSlot, IsTransition, entry_at, slot_sight}
 
 other_part : (p q a b w : ℕ) → p ≡ q → p * w + a ≡ q * w + b → a ≡ b
 other_part p q a b w e f =
@@ -36,6 +40,14 @@ pub told_entry : (cells : List Cell) (table : Transitions) (row column : ℕ) (s
 told_entry cells table row column sight Unknown told is e = tt
 told_entry cells table row column sight (Quiet t) told is e = told.quiet row column sight t is (sym e)
 told_entry cells table row column sight (Matching t) told is e = told.matching row column sight t is (sym e)
+
+-- what a slot has
+pub told_slot : (cells : List Cell) (table : Transitions) (s : Slot) → AreTold cells table → IsIn table.slots.items.items s → IsSlot table.classes cells s
+told_slot cells table s told is some row before low begins = by s.entry refl where
+  by : (e : Entry) → s.entry ≡ e → IsEntry table.classes cells row (slot_sight before s) e
+  by Unknown same = tt
+  by (Quiet t) same = told.apart_quiet s is some row before low begins t same
+  by (Matching t) same = told.apart_matching s is some row before low begins t same
 
 -- more cells
 module _ (cells later : List Cell) (grown : KeepsCells cells later) (longer : length cells ≤ length later) where
@@ -58,8 +70,17 @@ module _ (cells later : List Cell) (grown : KeepsCells cells later) (longer : le
     opened = is.opened;
   }
 
+  more_entry : (classes : Classes) (row : ℕ) (sight : Sight) (e : Entry) → IsEntry classes cells row sight e → IsEntry classes later row sight e
+  more_entry classes row sight Unknown is = tt
+  more_entry classes row sight (Quiet t) is = (more_transition classes row sight t is.0, λ c at. is.1 c (stays t.cell is.0.stands c at))
+  more_entry classes row sight (Matching t) is = (more_transition classes row sight t is.0, λ c at. is.1 c (stays t.cell is.0.stands c at))
+
   pub told_more : (table : Transitions) → AreTold cells table → AreTold later table
   told_more table told = record {
+    apart_quiet = λ s there some row before low begins t e.
+        more_entry table.classes row (slot_sight before s) (Quiet t) (told.apart_quiet s there some row before low begins t e);
+    apart_matching = λ s there some row before low begins t e.
+        more_entry table.classes row (slot_sight before s) (Matching t) (told.apart_matching s there some row before low begins t e);
     quiet = λ row column sight t is e.
         (let q = told.quiet row column sight t is e in (more_transition table.classes row sight t q.0, λ c at. q.1 c (stays t.cell q.0.stands c at)));
     matching = λ row column sight t is e.
@@ -92,9 +113,14 @@ entry_in entries classes row column = get_or entries (row * classes.width + colu
 
 -- the same classes, and entries that the table told, or that are steps
 pub told_by : (cells : List Cell) (table later : Transitions) → later.classes ≡ table.classes → AreTold cells table
+    → ((s : Slot) → IsIn later.slots.items.items s → IsSlot table.classes cells s)
     → ((row column : ℕ) (sight : Sight) → IsColumn table.classes sight column → (entry_in later.entries.items table.classes row column ≡ entry_at table row column)
     ⊎ IsEntry table.classes cells row sight (entry_in later.entries.items table.classes row column)) → AreTold cells later
-told_by cells table later same told each = record {
+told_by cells table later same told slots each = record {
+  apart_quiet = λ s is some row before low begins t e.
+      subst (IsEntry later.classes cells row (slot_sight before s)) e (subst (λ (k : Classes). IsSlot k cells s) (sym same) (slots s is) some row before low begins);
+  apart_matching = λ s is some row before low begins t e.
+      subst (IsEntry later.classes cells row (slot_sight before s)) e (subst (λ (k : Classes). IsSlot k cells s) (sym same) (slots s is) some row before low begins);
   quiet = λ row column sight t is e. there row column sight (Quiet t) (column_in sight column is) e (λ old. told.quiet row column sight t (column_in sight column is) old);
   matching = λ row column sight t is e. there row column sight (Matching t) (column_in sight column is) e (λ old. told.matching row column sight t (column_in sight column is) old);
 } where
@@ -111,18 +137,76 @@ told_by cells table later same told each = record {
         | inr told ↦ subst (IsEntry table.classes cells row sight) now told
       ])
 
+-- the slots are the same
+same_slots : (cells : List Cell) (table later : Transitions) → later.slots ≡ table.slots → AreTold cells table
+    → (s : Slot) → IsIn later.slots.items.items s → IsSlot table.classes cells s
+same_slots cells table later same told s is = told_slot cells table s told (subst (λ (x : Slots). IsIn x.items.items s) same is)
+
 -- the entries are the same
-pub told_same : (cells : List Cell) (table later : Transitions) → later.classes ≡ table.classes
+pub told_same : (cells : List Cell) (table later : Transitions) → later.classes ≡ table.classes → later.slots ≡ table.slots
     → ((i : ℕ) → get_or later.entries.items i Unknown ≡ get_or table.entries.items i Unknown) → AreTold cells table → AreTold cells later
-told_same cells table later classes same told =
-    told_by cells table later classes told (λ row column sight is. inl (same (row * table.classes.width + column)))
+told_same cells table later classes slots same told =
+    told_by cells table later classes told (same_slots cells table later slots told) (λ row column sight is. inl (same (row * table.classes.width + column)))
+
+-- the entries are the same, and each slot is one that was there, or the step from its rows
+pub told_left : (cells : List Cell) (table later : Transitions) → later.classes ≡ table.classes → later.entries ≡ table.entries
+    → ((s : Slot) → IsIn later.slots.items.items s → IsIn table.slots.items.items s ⊎ IsSlot table.classes cells s) → AreTold cells table → AreTold cells later
+told_left cells table later classes entries slots told =
+    told_by cells table later classes told
+    (λ s is. elim (slots s is) [
+      | inl there ↦ told_slot cells table s told there
+      | inr new ↦ new
+    ])
+    (λ row column sight is. inl (ap (λ (es : Vec Entry). get_or es.items (row * table.classes.width + column) Unknown) entries))
+
+pub blank_slot : (classes : Classes) (cells : List Cell) → IsSlot classes cells blank
+blank_slot classes cells some = absurd (some refl)
+
+-- the same table with one more slot
+pub told_with : (cells : List Cell) (table : Transitions) (slots : Slots) (s : Slot) → ComeFrom table.slots.items.items s slots.items.items → IsSlot table.classes cells s
+    → AreTold cells table → AreTold cells (record { classes = table.classes; entries = table.entries; slots = slots })
+told_with cells table slots s come is told =
+    told_left cells table (record { classes = table.classes; entries = table.entries; slots = slots }) refl refl
+    (λ x there. elim (come x there) [
+      | inl same ↦ inr (subst (IsSlot table.classes cells) (sym same) is)
+      | inr old ↦ inl old
+    ]) told
+
+-- a row and a side are told by where its columns begin for it
+start_apart : (classes : Classes) (row row' : ℕ) (side side' : Side) → 0 < length classes.members.items → number_of side < sides_of classes.tests → number_of side' < sides_of classes.tests
+    → row_start classes row side ≡ row_start classes row' side' → (row ≡ row') × (side ≡ side')
+start_apart classes row row' side side' some low low' same =
+    let m = length classes.members.items in
+    let n = number_of side in
+    let k = number_of side' in
+    let up : (n + 1) * m ≤ sides_of classes.tests * m = mul-le-mul_right m (omega (arith, low)) in
+    let up' : (k + 1) * m ≤ sides_of classes.tests * m = mul-le-mul_right m (omega (arith, low')) in
+    let one : (n + 1) * m ≡ n * m + m = omega arith in
+    let one' : (k + 1) * m ≡ k * m + m = omega arith in
+    let under : n * m < classes.width = omega (arith, up, one, some, classes.wide) in
+    let under' : k * m < classes.width = omega (arith, up', one', some, classes.wide) in
+    let rows : row ≡ row' =
+    sym (div-mul-add row classes.width (n * m) under) ∙ ap (λ (i : ℕ). i / classes.width) same ∙ div-mul-add row' classes.width (k * m) under' in
+    let firsts : n * m ≡ k * m = other_part row row' (n * m) (k * m) classes.width rows same in
+    let more : n * m + 0 ≡ k * m + 0 = omega (arith, firsts) in
+    let sides : n ≡ k = sym (div-mul-add n m 0 some) ∙ ap (λ (i : ℕ). i / m) more ∙ div-mul-add k m 0 some in
+    (rows, number_same side side' sides)
+
+-- the step from a row on a character is that from each row whose columns begin there
+pub slot_is : (classes : Classes) (cells : List Cell) (row : ℕ) (sight : Sight) (s : Slot) → 0 < length classes.members.items → number_of sight.before < sides_of classes.tests
+    → s.start ≡ row_start classes row sight.before → slot_sight sight.before s ≡ sight → IsEntry classes cells row sight s.entry → IsSlot classes cells s
+slot_is classes cells row sight s some low start seen entry known row' before low' begins =
+    let same = start_apart classes row row' sight.before before some low low' (sym start ∙ begins) in
+    subst (λ (b : Side). IsEntry classes cells row' (slot_sight b s) s.entry) same.1
+    (subst (λ (r : ℕ). IsEntry classes cells r (slot_sight sight.before s) s.entry) same.0
+    (subst (λ (x : Sight). IsEntry classes cells row x s.entry) (sym seen) entry))
 
 -- one entry is put in
-pub told_set : (cells : List Cell) (table later : Transitions) (row column : ℕ) (sight : Sight) (x : Entry) → later.classes ≡ table.classes
+pub told_set : (cells : List Cell) (table later : Transitions) (row column : ℕ) (sight : Sight) (x : Entry) → later.classes ≡ table.classes → later.slots ≡ table.slots
     → later.entries.items ≡ set table.entries.items (row * table.classes.width + column) x
     → row * table.classes.width + column < length table.entries.items → IsColumn table.classes sight column → IsEntry table.classes cells row sight x
     → AreTold cells table → AreTold cells later
-told_set cells table later row column sight x classes put within is entry told = told_by cells table later classes told each where
+told_set cells table later row column sight x classes slots put within is entry told = told_by cells table later classes told (same_slots cells table later slots told) each where
   each : (r b : ℕ) (seen : Sight) → IsColumn table.classes seen b → (entry_in later.entries.items table.classes r b ≡ entry_at table r b)
       ⊎ IsEntry table.classes cells r seen (entry_in later.entries.items table.classes r b)
   each r b seen also =
@@ -186,13 +270,13 @@ told_at cells table row byte column before e here seen is told =
     }) (is ∙ ap (λ (n : ℕ). get_or table.entries.items n Unknown) place)
 
 -- an entry is put in on a character that stands for its class
-pub told_noted : (cells : List Cell) (table made later : Transitions) (row column : ℕ) (sight : Sight) (x : Entry) → IsColumn table.classes sight column → made.classes ≡ table.classes
+pub told_noted : (cells : List Cell) (table made later : Transitions) (row column : ℕ) (sight : Sight) (x : Entry) → IsColumn table.classes sight column → made.classes ≡ table.classes → made.slots ≡ table.slots
     → ((i : ℕ) → get_or made.entries.items i Unknown ≡ get_or table.entries.items i Unknown)
-    → row * made.classes.width + made.classes.width ≤ length made.entries.items → later.classes ≡ made.classes
+    → row * made.classes.width + made.classes.width ≤ length made.entries.items → later.classes ≡ made.classes → later.slots ≡ made.slots
     → later.entries.items ≡ set made.entries.items (row * made.classes.width + column) x → AreTold cells table → IsEntry table.classes cells row sight x
     → AreTold cells later
-told_noted cells table made later row column sight x is classes same room kept put told entry =
+told_noted cells table made later row column sight x is classes slots same room kept stay put told entry =
     let there : IsColumn made.classes sight column = subst (λ (k : Classes). IsColumn k sight column) (sym classes) is in
     let low = column_within made.classes sight column there in
-    told_set cells made later row column sight x kept put (omega (arith, room, low)) there
-    (subst (λ (k : Classes). IsEntry k cells row sight x) (sym classes) entry) (told_same cells table made classes same told)
+    told_set cells made later row column sight x kept stay put (omega (arith, room, low)) there
+    (subst (λ (k : Classes). IsEntry k cells row sight x) (sym classes) entry) (told_same cells table made classes slots same told)

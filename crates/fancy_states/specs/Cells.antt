@@ -118,3 +118,4 @@ pub record IsEmpty (a : Cells) : Type 0 where
   pub rows : a.rows.lists.items ≡ []
   pub cells : a.cells.items ≡ []
   pub entries : a.table.entries.items ≡ []
+  pub slots : a.table.slots.items.items ≡ []

@@ -6,6 +6,7 @@ pub mod Steps
 pub mod Joins
 pub mod Search
 pub mod Origins
+pub mod Slots
 pub mod Transitions
 pub mod Cells
 pub mod Trail

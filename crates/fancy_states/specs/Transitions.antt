@@ -1,7 +1,11 @@
--- The table of a search: what is said there of a row and an ASCII character.
-use Rattle.std.specs.Prelude.{◌≡◌, ◌+◌, ◌*◌, ◌<◌, ℕ, List, None, Some, true, get_or, is_some, length, slice_get}
+-- The table of a search: what is said there of a row and a character.
+use Rattle.std.specs.Prelude.{◌≡◌, ◌≢◌, ◌+◌, ◌*◌, ◌<◌, ℕ, List, None, Some, true, get_or, is_some, length, slice_get}
 use Rattle.fancy_alphabet.specs.declared.sight.Sight.{Sight}
+use Rattle.fancy_alphabet.specs.Sides.{number_of, sides_of}
+use Rattle.fancy_alphabet.specs.declared.side.Side.{Side}
+use Rattle.fancy_states.specs.Slots.{IsIn, nothing}
 use Rattle.fancy_states.specs.declared.cells.Cell.{Cell}
+use Rattle.fancy_states.specs.declared.slots.Slot.{Slot}
 use Rattle.fancy_states.specs.declared.transitions.Transition.{Transition}
 use Rattle.fancy_alphabet.specs.Classes.{IsColumn, row_start}
 use Rattle.fancy_alphabet.specs.declared.classes.Classes.{Classes}
@@ -38,13 +42,32 @@ IsEntry classes cells row sight (Matching t) = IsTransition classes cells row si
 abbrev pub entry_at : Transitions → ℕ → ℕ → Entry
 entry_at table row column = get_or table.entries.items (row * table.classes.width + column) Unknown
 
+-- what is seen where the character of a slot is read, after this side
+abbrev pub slot_sight : Side → Slot → Sight
+slot_sight before s = record { before = before; after = s.after; reading = Some (record { code = s.code; width = s.width }) }
+
+-- a slot of a character has the step from each row whose columns begin there
+abbrev pub IsSlot : Classes → List Cell → Slot → Type 0
+IsSlot classes cells s = s.code ≢ nothing → (row : ℕ) (before : Side) → number_of before < sides_of classes.tests → s.start ≡ row_start classes row before
+    → IsEntry classes cells row (slot_sight before s) s.entry
+
 -- Each entry of the table is such a step, on what is seen in its column.
 pub record AreTold (cells : List Cell) (table : Transitions) : Type 0 where
   pub quiet : (row column : ℕ) (sight : Sight) (t : Transition) → IsColumn table.classes sight column
       → entry_at table row column ≡ Quiet t → IsTransition table.classes cells row sight t × IsQuiet cells t
   pub matching : (row column : ℕ) (sight : Sight) (t : Transition) → IsColumn table.classes sight column
       → entry_at table row column ≡ Matching t → IsTransition table.classes cells row sight t × IsMatching cells t
+  -- and so is each slot of a character, from each row whose columns begin there
+  pub apart_quiet : (s : Slot) → IsIn table.slots.items.items s → s.code ≢ nothing → (row : ℕ) (before : Side) → number_of before < sides_of table.classes.tests
+      → s.start ≡ row_start table.classes row before → (t : Transition) → s.entry ≡ Quiet t
+      → IsTransition table.classes cells row (slot_sight before s) t × IsQuiet cells t
+  pub apart_matching : (s : Slot) → IsIn table.slots.items.items s → s.code ≢ nothing → (row : ℕ) (before : Side) → number_of before < sides_of table.classes.tests
+      → s.start ≡ row_start table.classes row before → (t : Transition) → s.entry ≡ Matching t
+      → IsTransition table.classes cells row (slot_sight before s) t × IsMatching cells t
 
--- the table, as it is read
-abbrev pub IsView : Transitions → View → Type 0
-IsView table v = (v.columns.now ≡ table.classes.columns.items) × (v.entries.now ≡ table.entries.items)
+-- The table, as it is read.
+pub record IsView (table : Transitions) (v : View) : Type 0 where
+  pub columns : v.columns.now ≡ table.classes.columns.items
+  pub entries : v.entries.now ≡ table.entries.items
+  pub slots : v.slots.now ≡ table.slots.items.items
+  pub tests : v.tests ≡ table.classes.tests

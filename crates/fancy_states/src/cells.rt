@@ -11,11 +11,11 @@ ghost use Rattle.fancy_states.specs.Transitions.{AreTold, IsEntry};
 ghost use Rattle.fancy_states.specs.Cells.{KeepsRows, KeepsCells, HasRow, HasCell, HasPlace, IsFor, IsCell, IsBounded, ways_at, IsEmpty, StaysTrue, GrowsBy, HasRows, HoldsFor};
 ghost use Rattle.fancy_states.specs.Counts.{AddsSteps, PaysFor};
 
-use crate::hints::Hints;
 use crate::join::{Begun, joined};
 use crate::marks::Marks;
 use crate::origin::{Origin, origin_of};
 use crate::rows::{Rows, Target, copied, intern, target_of};
+use crate::slots::{NOTHING, slot_at};
 use crate::step::{Step, step_from};
 use crate::trail::Trail;
 use crate::transitions::{Entry, Transition, Transitions};
@@ -69,8 +69,8 @@ const ROW_BYTES: usize = 160;
 /// An entry of the table takes so many bytes.
 const ENTRY_BYTES: usize = 20;
 
-/// A step takes about so many bytes, with its hints and without the ways that it leads to.
-const CELL_BYTES: usize = 240;
+/// A step takes about so many bytes, with its slots and without the ways that it leads to.
+const CELL_BYTES: usize = 320;
 
 /// Rows and steps with numbers below this are told by the table.
 const SMALL: usize = 65_536;
@@ -88,12 +88,8 @@ pub struct Cells {
     pub rows: Rows,
     /// The steps.
     pub cells: Vec<Cell>,
-    /// The steps on ASCII characters, by their row, what stands before, and the class of the character.
+    /// The steps by their row, what stands before, and the character, an ASCII one by its class.
     pub table: Transitions,
-    /// The numbers of the other steps, by their row and what is seen.
-    pub hints: Hints,
-    /// The number of the row without an instruction, where it is one; that is tested.
-    pub nothing: usize,
     /// The number of the row of the first instruction alone, where it is one; that is tested.
     pub alone: usize,
     /// How many ways all steps lead to together.
@@ -122,8 +118,6 @@ impl Cells {
             rows: Rows::new(alloc),
             cells: Vec::new(alloc),
             table: Transitions::new(alloc),
-            hints: Hints::new(alloc),
-            nothing: 0,
             alone: 0,
             held: 0,
             room: ROOM,
@@ -158,7 +152,7 @@ impl Cells {
         self.rows.lists.len() > ROWS - 2 || self.cells.len() >= CELLS || self.bytes() >= self.room
     }
 
-    /// Forgets all rows and steps. Hints that are left name nothing, or a later step, which is tested.
+    /// Forgets all rows and steps.
     pub fn forget(&mut self)
         ensures empty { IsEmpty self.new }
         ensures place { HasPlace self.new }
@@ -167,6 +161,7 @@ impl Cells {
         self.rows.clear();
         self.cells.clear();
         self.table.entries.clear();
+        self.table.slots.items.clear();
         self.held = 0;
     }
 
@@ -236,17 +231,6 @@ fn computed(
         matched: step.matched,
         origin,
     })
-}
-
-/// The key of the step from a row on what is seen.
-#[inline(always)]
-fn cell_key(row: usize, sight: Sight) -> usize {
-    let code = match sight.reading {
-        None => 0,
-        Some(reading) => reading.code as usize,
-    };
-    let sides = sight.before.number() * 6 + sight.after.number();
-    row.wrapping_mul(97).wrapping_add(code).wrapping_add(sides)
 }
 
 /// Whether the same is read.
@@ -319,6 +303,26 @@ fn told(cells: &Cells, row: usize, sight: Sight, byte: u8) -> Option<usize>
     }
 }
 
+/// The number of the step from a row on what is seen, which is no ASCII character, if a slot tells it.
+#[inline(always)]
+fn told_apart(cells: &Cells, row: usize, sight: Sight) -> Option<usize>
+    requires row { row < 65_536 }
+    ensures { IfSome result (λ k. HasCell cells.now.cells.items k row sight) }
+{
+    let code = match sight.reading {
+        None => NOTHING,
+        Some(reading) => reading.code,
+    };
+    let start = cells.table.classes.start(row, sight.before);
+    let slot = slot_at(&cells.table.slots.items, start, code)?;
+    match slot.entry {
+        Entry::Unknown => None,
+        Entry::Quiet(step) | Entry::Matching(step) => {
+            tested_cell(&cells.cells, Some(step.cell as usize), row, sight)
+        }
+    }
+}
+
 /// Whether the table tells the step from a row on an ASCII character, with what stands before it.
 pub fn is_told(cells: &Cells, row: usize, before: Side, byte: u8) -> bool
     requires row { row < 65_536 }
@@ -340,41 +344,8 @@ pub fn remembered(cells: &Cells, row: usize, sight: Sight) -> Option<usize>
 {
     match sight.ascii() {
         Some(byte) => told(cells, row, sight, byte),
-        None => {
-            let key = cell_key(row, sight);
-            match tested_cell(&cells.cells, cells.hints.first(key), row, sight) {
-                Some(k) => Some(k),
-                None => tested_cell(&cells.cells, cells.hints.second(key), row, sight),
-            }
-        }
+        None => told_apart(cells, row, sight),
     }
-}
-
-/// Leaves hints for all steps that the table does not tell.
-fn hint_all(hints: &mut Hints, cells: &[Cell]) {
-    for k in 0..cells.len() {
-        let cell = &cells[k];
-        if cell.sight.ascii().is_none() {
-            hints.leave(cell_key(cell.row, cell.sight), k);
-        }
-    }
-}
-
-/// Leaves a hint for a step, in a larger table where this one is too small.
-fn hint_cell(
-    alloc: Global,
-    hints: &mut Hints,
-    cells: &[Cell],
-    key: usize,
-    cell: usize,
-) -> Result<(), AllocError> {
-    if !hints.is_small(cells.len()) {
-        hints.leave(key, cell);
-        return Ok(());
-    }
-    hints.widen(alloc)?;
-    hint_all(hints, cells);
-    Ok(())
 }
 
 /// The entry of the step with this number, in a table of these classes.
@@ -403,25 +374,19 @@ fn entry_of(cells: &[Cell], k: usize, classes: &Classes) -> Entry
 }
 
 /// Notes the step with this number, so that it is found again.
-fn note(
-    alloc: Global,
-    table: &mut Transitions,
-    hints: &mut Hints,
-    cells: &[Cell],
-    k: usize,
-) -> Result<(), AllocError>
+fn note(alloc: Global, table: &mut Transitions, cells: &[Cell], k: usize) -> Result<(), AllocError>
     requires { k < length cells.now }
     ensures told { AreTold cells.now table.old → AreTold cells.now table.new }
     ensures classes { table.new.classes ≡ table.old.classes }
 {
     let cell = &cells[k];
-    if cell.sight.ascii().is_none() {
-        return hint_cell(alloc, hints, cells, cell_key(cell.row, cell.sight), k);
-    }
     if cell.row >= SMALL {
         return Ok(());
     }
     let entry = entry_of(cells, k, &table.classes);
+    if cell.sight.ascii().is_none() {
+        return table.leave(alloc, cell.row, cell.sight, entry, cells.len());
+    }
     table.note(cell.row, cell.sight, entry)
 }
 
@@ -429,9 +394,9 @@ fn note(
 #[inline(always)]
 pub fn has_origin(code: &Code, cells: &Cells) -> bool
     ensures { result ≡ true
-        → HasRows cells.now.rows.lists.items cells.now.nothing cells.now.alone [] code.now.start }
+        → HasRows cells.now.rows.lists.items cells.now.rows.nothing cells.now.alone [] code.now.start }
 {
-    if !cells.rows.is_empty(cells.nothing) {
+    if !cells.rows.is_empty(cells.rows.nothing) {
         return false;
     }
     cells.rows.has_alone(cells.alone, code.start)
@@ -462,7 +427,6 @@ fn made_origin(code: &Code, cells: &mut Cells) -> Result<Target, AllocError>
     sort(code, cells)?;
     cells.make_place();
     let target = target_of(cells.alloc, &mut cells.rows, code.start, &[])?;
-    cells.nothing = target.next;
     cells.alone = target.begun;
     Ok(target)
 }
@@ -477,7 +441,7 @@ pub fn origin(code: &Code, cells: &mut Cells) -> Result<Target, AllocError>
 {
     if has_origin(code, cells) {
         return Ok(Target {
-            next: cells.nothing,
+            next: cells.rows.nothing,
             begun: cells.alone,
         });
     }
@@ -584,13 +548,7 @@ pub fn step_at(
     let k = cells.cells.len();
     cells.held = cells.held.saturating_add(cell.came.len());
     cells.cells.push(cell)?;
-    note(
-        cells.alloc,
-        &mut cells.table,
-        &mut cells.hints,
-        &cells.cells,
-        k,
-    )?;
+    note(cells.alloc, &mut cells.table, &cells.cells, k)?;
     Ok(k)
 }
 

@@ -17,6 +17,7 @@ pub mod marks;
 pub mod origin;
 pub mod plain;
 pub mod rows;
+pub mod slots;
 pub mod step;
 pub mod trail;
 pub mod transitions;

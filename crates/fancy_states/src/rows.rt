@@ -15,6 +15,8 @@ pub struct Rows {
     pub lists: Vec<Vec<usize>>,
     /// The numbers of rows, by their instructions.
     pub names: Hints,
+    /// The number of the row without an instruction, where it is one; that is tested.
+    pub nothing: usize,
     /// How many instructions all rows have together.
     pub held: usize,
 }
@@ -27,6 +29,7 @@ impl Rows {
         Rows {
             lists: Vec::new(alloc),
             names: Hints::new(alloc),
+            nothing: 0,
             held: 0,
         }
     }
@@ -82,10 +85,14 @@ fn row_key(ways: &[usize]) -> usize {
     key
 }
 
-/// The number of a row with these instructions, if a hint leads to one.
+/// The number of a row with these instructions, if a hint leads to one. There is one row without an instruction, since searches tell
+/// by its number that no way waits.
 fn named_row(rows: &Rows, key: usize, ways: &[usize]) -> Option<usize>
     ensures { IfSome result (λ r. HasRow rows.now.lists.items r ways.now) }
 {
+    if rows.has(rows.nothing, ways) {
+        return Some(rows.nothing);
+    }
     let first = rows.names.first(key)?;
     if rows.has(first, ways) {
         return Some(first);
@@ -131,6 +138,7 @@ pub fn intern(alloc: Global, rows: &mut Rows, ways: Vec<usize>) -> Result<usize,
         return Ok(r);
     }
     let r = rows.lists.len();
+    rows.nothing = if ways.len() == 0 { r } else { rows.nothing };
     rows.held = rows.held.saturating_add(ways.len());
     rows.lists.push(ways)?;
     name_row(alloc, &mut rows.names, &rows.lists, key, r)?;

@@ -1,16 +1,19 @@
-//! The table that a search goes by: the step from each row on an ASCII character, as far as it is remembered.
+//! The table that a search goes by: the step from each row on a character, as far as it is remembered.
 
 ghost use Rattle.std.specs.Prelude.{◌≡◌, ◌+◌, ◌*◌, ◌<◌, ◌≤◌, ℕ, [], List, OnOk, IfSome, get_or, length, slice_get, Some};
 ghost use Rattle.fancy_alphabet.specs.Classes.{row_start, sight_for};
 ghost use Rattle.fancy_alphabet.specs.Sides.{number_of, sides_of};
-ghost use Rattle.fancy_states.specs.Transitions.{AreTold, IsEntry, IsView};
+ghost use Rattle.fancy_states.specs.Transitions.{AreTold, IsEntry, IsSlot, IsView};
 ghost use Rattle.fancy_states.specs.declared.transitions.Transitions.{Transitions};
 ghost use Rattle.fancy_states.specs.declared.cells.Cell.{Cell};
 ghost use Rattle.fancy_alphabet.specs.declared.side.Side.{Side};
 
 use crate::origin::Origin;
+use crate::slots::{NOTHING, Slot, Slots, slot_at};
 use fancy_alphabet::classes::Classes;
+use fancy_alphabet::side::{Side, Tests};
 use fancy_alphabet::sight::Sight;
+use fancy_meaning::reading::Reading;
 use std::alloc::{AllocError, Global};
 
 /// A step, told by numbers.
@@ -41,6 +44,36 @@ pub enum Entry {
     Matching(Transition),
 }
 
+/// The slot of a step from a row on what is no ASCII character, if there is one for it.
+fn slot_of(classes: &Classes, row: usize, sight: Sight, entry: Entry) -> Option<Slot>
+    requires { row < 65_536 }
+    ensures { IfSome result (λ s. (cells : List Cell)
+        → IsEntry classes.now cells row sight entry → IsSlot classes.now cells s) }
+{
+    if classes.len() == 0 || sight.before.number() >= classes.tests.sides() {
+        return None;
+    }
+    let start = classes.start(row, sight.before);
+    let after = sight.after;
+    match sight.reading {
+        None => Some(Slot {
+            start,
+            code: NOTHING,
+            width: 0,
+            after,
+            entry,
+        }),
+        Some(reading) if reading.width <= 4 => Some(Slot {
+            start,
+            code: reading.code,
+            width: reading.width as u8,
+            after,
+            entry,
+        }),
+        Some(_) => None,
+    }
+}
+
 /// The entries of all rows, one for each class of characters and side before it, by the numbers of the rows.
 #[derive(Drop)]
 pub struct Transitions {
@@ -48,17 +81,21 @@ pub struct Transitions {
     pub classes: Classes,
     /// The entries.
     pub entries: Vec<Entry>,
+    /// The steps on all else, which need not be there.
+    pub slots: Slots,
 }
 
 impl Transitions {
     /// No step is remembered, and no character has a class.
     pub fn new(alloc: Global) -> Transitions
         ensures entries { result.entries.items ≡ [] }
+        ensures slots { result.slots.items.items ≡ [] }
         ensures columns { result.classes.columns.items ≡ [] }
     {
         Transitions {
             classes: Classes::new(alloc),
             entries: Vec::new(alloc),
+            slots: Slots::new(alloc),
         }
     }
 
@@ -70,6 +107,8 @@ impl Transitions {
         View {
             columns: &self.classes.columns,
             entries: &self.entries,
+            slots: &self.slots.items,
+            tests: self.classes.tests,
         }
     }
 
@@ -79,6 +118,7 @@ impl Transitions {
         ensures same { (i : ℕ) → get_or self.new.entries.items i Entry.Unknown
             ≡ get_or self.old.entries.items i Entry.Unknown }
         ensures classes { self.new.classes ≡ self.old.classes }
+        ensures slots { self.new.slots ≡ self.old.slots }
         ensures room { OnOk result (row * self.new.classes.width + self.new.classes.width
             ≤ length self.new.entries.items) }
     {
@@ -103,6 +143,30 @@ impl Transitions {
         self.entries[row * self.classes.width + column] = entry;
         Ok(())
     }
+
+    /// Puts in the step from a row on what is no ASCII character, where so many steps are remembered.
+    pub fn leave(
+        &mut self,
+        alloc: Global,
+        row: usize,
+        sight: Sight,
+        entry: Entry,
+        steps: usize,
+    ) -> Result<(), AllocError>
+        requires { row < 65_536 }
+        ensures told { (cells : List Cell) → AreTold cells self.old
+            → IsEntry self.old.classes cells row sight entry → AreTold cells self.new }
+        ensures classes { self.new.classes ≡ self.old.classes }
+    {
+        let Some(slot) = slot_of(&self.classes, row, sight, entry) else {
+            return Ok(());
+        };
+        if self.slots.is_small(steps) {
+            self.slots.widen(alloc)?;
+        }
+        self.slots.leave(slot);
+        Ok(())
+    }
 }
 
 /// A table that is read: a loop holds it in registers.
@@ -112,6 +176,10 @@ pub struct View<'t> {
     pub columns: &'t [u8],
     /// The entries.
     pub entries: &'t [Entry],
+    /// The steps on all else.
+    pub slots: &'t [Slot],
+    /// Which sides of a place are told apart.
+    pub tests: Tests,
 }
 
 impl<'t> View<'t> {
@@ -154,6 +222,25 @@ impl<'t> View<'t> {
         match self.entry(start, column) {
             Some(entry) => *entry,
             None => Entry::Unknown,
+        }
+    }
+
+    /// What the table has of a row, whose columns begin at `start` for what stands before, and a character past ASCII, with what stands
+    /// after the place.
+    #[inline(always)]
+    pub fn wide(self, start: u32, after: Side, reading: Reading) -> Option<&'t Entry>
+        ensures { (cells : List Cell) (table : Transitions) (row : ℕ) (before : Side)
+            → IsView table self.entry → AreTold cells table
+            → number_of before < sides_of table.classes.tests
+            → start ≡ row_start table.classes row before
+            → IfSome result (λ e. IsEntry table.classes cells row
+            (record { before = before; after = after; reading = Some reading }) e.now) }
+    {
+        let slot = slot_at(self.slots, start, reading.code)?;
+        if slot.has(reading.width, after) {
+            Some(&slot.entry)
+        } else {
+            None
         }
     }
 }

@@ -1,16 +1,12 @@
-use Rattle.std.proofs.Common.{◌≡◌, ◌+◌, ◌<◌, ◌∙◌, ap, arith, get_or, length, List, refl, subst, sym, true, ℕ}
-use Rattle.std.specs.Prelude.{slice_get}
+use Rattle.std.proofs.Common.{◌≡◌, ◌∙◌, ap, arith, length, refl, subst, sym, true}
 use Rattle.fancy_code.specs.Attempt.{context_in, may_end_in}
 use Rattle.fancy_alphabet.specs.Classes.{IsStart}
 use Rattle.fancy_automaton.specs.declared.hop.Stand.{Stand}
-use Rattle.std.proofs.lemmas.Option.{slice_get-get_or}
 use Rattle.fancy_states.specs.Cells.{row_if}
 use Rattle.fancy_automaton.specs.Front.{IsFront, found_of, front_at}
-use Rattle.fancy_alphabet.specs.Sides.{seen_as}
 use Rattle.fancy_states.specs.Trail.{found_in_trail, hit_or}
 use Rattle.fancy_states.proofs.CellLemmas.{row_within}
-use Rattle.fancy_automaton.proofs.HopLemmas.{ascii_leads, column_low, front_hopped, row_starts, start_after}
-use Rattle.fancy_alphabet.proofs.NumberLemmas.{seen_low}
+use Rattle.fancy_automaton.proofs.HopLemmas.{front_hopped, row_starts}
 use Rattle.fancy_automaton.proofs.hop.run.Goals as goal
 
 pub ahead_of-requires : goal.ahead_of-requires
@@ -45,38 +41,29 @@ places-preserved c =
     let p = c.places.at.place in
     let row = row_if (found_of cells f) f.next f.begun in
     let step = c.in-Some-step_of.step in
-    let byte = get_or a.haystack.now p 0 in
-    let column = c.in-Some.column in
-    let kept = c.places.invariant.front.kept.told in
-    let view = c.view-table.ensures in
-    let seen = sym c.in-Some.ensures in
-    let there = ap (λ (cs : List ℕ). slice_get cs byte) (sym view.0) ∙ seen in
-    let low = column_low classes byte column there in
-    let read = slice_get-get_or a.haystack.now p 0 (omega (arith, c.places.invariant.front.followed.inside)) in
+    let past = c.in-Some.told.past in
+    let is = c.places.invariant.front in
     let starts = c.places.invariant.starts cells.cells.items f.trail in
-    let side = seen_as classes.tests starts.0 in
-    let entry = c.at-entry.ensures cells.cells.items cells.table row side byte view kept (seen_low classes.tests starts.0) starts.2 seen in
-    let told = c.in-Some-step_of.ensures.told row _ entry in
+    let seen = c.in-Some.ensures.told cells row c.view-table.ensures is.followed (record { bounded = is.kept; all = is.all }) c.places.invariant.good starts in
+    let told = c.in-Some-step_of.ensures.told row seen.0 seen.2 in
     let size : c.len-visits.result ≡ length c.places.trail.visits.items = omega arith in
-    let before : p < a.last = omega arith in
     let e = c.stand_after-at.ensures in
     let place = ap (λ (st : Stand). st.place) e in
-    let are = c.places.invariant.front.all.1 in
     record {
       front = subst (λ (st : Stand). IsFront a cells (front_at st (record { base = c.places.trail.base; visits = c.push.new.self }) c.step_of.new.hit) st.place st.place) (sym e)
-          (front_hopped a cells f p row byte c.places.row column step c.start_at-start.result c.push.new.self c.step_of.new.hit
-          before read there c.places.invariant.good c.places.invariant.front starts refl told (c.start_at-start.ensures cells.cells.items f.trail) c.in_ok-push.ensures.items
-          (λ d at. c.in-Some-step_of.ensures.found row _ entry d at ∙ ap (λ n. hit_or c.places.hit d.matched n p) size));
-      good = subst (λ (st : Stand). may_end_in a st.place ≡ true) (sym e) (ascii_leads a p byte before low read c.places.invariant.front.followed.steady c.places.invariant.good);
+          (front_hopped a cells f p past row seen.0 step c.start_at-start.result c.push.new.self c.step_of.new.hit
+          c.places.invariant.within c.places.invariant.good is seen.1 refl told (c.start_at-start.ensures cells.cells.items f.trail) c.in_ok-push.ensures.items
+          (λ d at. c.in-Some-step_of.ensures.found row seen.0 seen.2 d at ∙ ap (λ n. hit_or c.places.hit d.matched n p) size));
+      good = subst (λ (st : Stand). may_end_in a st.place ≡ true) (sym e) seen.1.good;
       starts = λ known trail.
           (let found = found_in_trail known trail c.step_of.new.hit in
           subst (λ (st : Stand). IsStart (context_in a) st.place classes (row_if found st.next st.begun) c.start_of_row-row-in-places.result) (sym e)
-          (subst (IsStart (context_in a) (p + 1) classes (row_if found step.next step.begun)) (sym (c.start_of_row-row-in-places.ensures known trail))
-          (row_starts (context_in a) (p + 1) classes found step.next step.begun step.ahead step.opened
-          (start_after a classes p byte step.next step.ahead are low read told.ahead)
-          (start_after a classes p byte step.begun step.opened are low read told.opened))));
-      passed = omega (arith, c.places.invariant.passed, place);
-      within = omega (arith, before, place);
-      visits = omega (arith, c.in_ok-push.ensures.len, c.places.invariant.visits, place);
-      stops = λ more. omega (arith, place);
+          (subst (IsStart (context_in a) past classes (row_if found step.next step.begun)) (sym (c.start_of_row-row-in-places.ensures known trail))
+          (row_starts (context_in a) past classes found step.next step.begun step.ahead step.opened
+          (seen.1.begins step.next step.ahead told.ahead)
+          (seen.1.begins step.begun step.opened told.opened))));
+      passed = omega (arith, c.places.invariant.passed, seen.1.forth, place);
+      within = omega (arith, seen.1.within, place);
+      visits = omega (arith, c.in_ok-push.ensures.len, c.places.invariant.visits, seen.1.forth, place);
+      stops = λ more. omega (arith, c.in_ok-push.ensures.len, c.places.invariant.visits);
     }

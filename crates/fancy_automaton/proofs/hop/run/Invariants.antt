@@ -17,7 +17,7 @@ invariant-places l = record {
   passed : l.fn.from.place ≤ l.at.place;
   within : l.at.place ≤ l.attempt.last;
   visits : length l.trail.visits.items + l.fn.from.place ≤ length l.fn.trail.visits.items + l.at.place;
-  stops : l.fn.from.place < l.at.place → l.at.place ≤ l.end;
+  stops : l.fn.from.place < l.at.place → length l.trail.visits.items + l.fn.from.place ≤ length l.fn.trail.visits.items + l.end;
 }
 
 abbrev pub decreases-places : goal.decreases-places

@@ -1,4 +1,4 @@
-use Rattle.std.proofs.Common.{◌≡◌, ℕ, ◌+◌, ◌-◌, ◌<◌, ◌≤◌, ◌∙◌, Bool, true, false, List, Option, Some, None, sym, ap, ap₂, subst, arith, option_map, refl, replicate}
+use Rattle.std.proofs.Common.{◌≡◌, ℕ, ◌+◌, ◌-◌, ◌<◌, ◌≤◌, ◌∙◌, Bool, true, false, List, Option, Some, None, sym, ap, ap₂, subst, arith, refl, replicate}
 use Rattle.fancy_input.specs.declared.span.Span.{Span}
 use Rattle.std.specs.Prelude.{min, if◌then◌else◌}
 use Rattle.fancy_input.specs.Requests.{positions}

@@ -1,4 +1,4 @@
-use Rattle.std.proofs.Common.{◌≡◌, ◌+◌, ◌∙◌, [], ℕ, None, Option, Some, ap, arith, option_map, refl, sym, true}
+use Rattle.std.proofs.Common.{◌≡◌, ◌+◌, ◌∙◌, [], ℕ, None, Option, Some, ap, arith, option_map, refl, subst, sym, true}
 use Rattle.std.specs.Prelude.{is_some}
 use Rattle.fancy_states.specs.Search.{ends_in}
 use Rattle.fancy_states.specs.Trail.{match_from}
@@ -7,14 +7,16 @@ use Rattle.fancy_states.proofs.CellLemmas.{row_ways, row_within}
 use Rattle.fancy_prefilter.proofs.NextLemmas.{starts_somewhere}
 use Rattle.fancy_automaton.proofs.GoingLemmas.{going_end, going_first, going_idle, going_over}
 use Rattle.fancy_states.proofs.CountLemmas.{counts_from}
+use Rattle.fancy_automaton.specs.Sole.{Reaches}
 use Rattle.fancy_automaton.proofs.search.find_span.Goals as goal
+use Rattle.fancy_automaton.proofs.search.find_span.Goals.{then-not-is_wide_at, else-not-is_wide_at, then-is_wide_at+then-not-is_over, else-is_wide_at}
 
 match_found : (start : ℕ) (end : Option ℕ) → is_some end ≡ true → is_some (match_from start end) ≡ true
 match_found start None some = some
 match_found start (Some end) some = refl
 
-pub new-requires : goal.new-requires
-new-requires c =
+pub new-to-requires : goal.new-to-requires
+new-to-requires c =
     let a = c.args.attempt.now in
     let place = c.next_place-place.ensures in
     record {
@@ -28,8 +30,57 @@ new-requires c =
 
 pub is_over-requires : goal.is_over-requires
 is_over-requires c =
-    let sole = c.follow-to.ensures.reaches.sole in
-    row_within c.origin.new.cells.rows.lists.items c.follow-to.result.stand.next sole.0 sole.1.waits
+    let a = c.args.attempt.now in
+    let cells = c.origin.new.cells in
+    let p = c.new-to.result.stand.place in
+    let one : Reaches a cells p c.if-not-is_wide_at.to = elim c.if-not-is_wide_at.branch [
+      | then-not-is_wide_at w ↦ subst (Reaches a cells p) (sym w.to-is) w.follow-to.ensures.reaches
+      | else-not-is_wide_at w ↦ subst (Reaches a cells p) (sym w.to-is) (record { sole = c.new-to.ensures.sole; forth = omega arith })
+    ] in
+    row_within cells.rows.lists.items c.if-not-is_wide_at.to.stand.next one.sole.0 one.sole.1.waits
+
+pub follow_any-to-requires : goal.follow_any-to-requires
+follow_any-to-requires c =
+    let a = c.args.attempt.now in
+    let cells = c.origin.new.cells in
+    let p = c.new-to.result.stand.place in
+    let one : Reaches a cells p c.if-not-is_wide_at.to = elim c.if-not-is_wide_at.branch [
+      | then-not-is_wide_at w ↦ subst (Reaches a cells p) (sym w.to-is) w.follow-to.ensures.reaches
+      | else-not-is_wide_at w ↦ subst (Reaches a cells p) (sym w.to-is) (record { sole = c.new-to.ensures.sole; forth = omega arith })
+    ] in
+    record { sole = one.sole }
+
+pub is_over-requires-2 : goal.is_over-requires-2
+is_over-requires-2 c =
+    let a = c.args.attempt.now in
+    let cells = c.origin.new.cells in
+    let p = c.new-to.result.stand.place in
+    let one : Reaches a cells p c.if-not-is_wide_at.to = elim c.if-not-is_wide_at.branch [
+      | then-not-is_wide_at w ↦ subst (Reaches a cells p) (sym w.to-is) w.follow-to.ensures.reaches
+      | else-not-is_wide_at w ↦ subst (Reaches a cells p) (sym w.to-is) (record { sole = c.new-to.ensures.sole; forth = omega arith })
+    ] in
+    let two : Reaches a cells p c.if-is_wide_at.to = elim c.if-is_wide_at.branch [
+      | then-is_wide_at+then-not-is_over w ↦ subst (Reaches a cells p) (sym w.to-is)
+          (record { sole = w.follow_any-to.ensures.reaches.sole; forth = omega (arith, one.forth, w.follow_any-to.ensures.reaches.forth) })
+      | else-is_wide_at w ↦ subst (Reaches a cells p) (sym w.to-is) one
+    ] in
+    row_within cells.rows.lists.items c.if-is_wide_at.to.stand.next two.sole.0 two.sole.1.waits
+
+pub trace-requires : goal.trace-requires
+trace-requires c =
+    let a = c.args.attempt.now in
+    let cells = c.origin.new.cells in
+    let p = c.new-to.result.stand.place in
+    let one : Reaches a cells p c.if-not-is_wide_at.to = elim c.if-not-is_wide_at.branch [
+      | then-not-is_wide_at w ↦ subst (Reaches a cells p) (sym w.to-is) w.follow-to.ensures.reaches
+      | else-not-is_wide_at w ↦ subst (Reaches a cells p) (sym w.to-is) (record { sole = c.new-to.ensures.sole; forth = omega arith })
+    ] in
+    let two : Reaches a cells p c.if-is_wide_at.to = elim c.if-is_wide_at.branch [
+      | then-is_wide_at+then-not-is_over w ↦ subst (Reaches a cells p) (sym w.to-is)
+          (record { sole = w.follow_any-to.ensures.reaches.sole; forth = omega (arith, one.forth, w.follow_any-to.ensures.reaches.forth) })
+      | else-is_wide_at w ↦ subst (Reaches a cells p) (sym w.to-is) one
+    ] in
+    record { sole = two.sole }
 
 pub returns-then-place-attempt-clause-answer : goal.returns-then-place-attempt-clause-answer
 returns-then-place-attempt-clause-answer c deep begun =
@@ -46,12 +97,23 @@ returns-then-place-attempt-clause-kept c = record {
 
 pub returns-then-is_over-clause-answer : goal.returns-then-is_over-clause-answer
 returns-then-is_over-clause-answer c deep begun =
-    let to = c.follow-to.result in
-    let sole = c.follow-to.ensures.reaches.sole in
+    let a = c.args.attempt.now in
+    let cells = c.origin.new.cells in
+    let p = c.new-to.result.stand.place in
+    let one : Reaches a cells p c.if-not-is_wide_at.to = elim c.if-not-is_wide_at.branch [
+      | then-not-is_wide_at w ↦ subst (Reaches a cells p) (sym w.to-is) w.follow-to.ensures.reaches
+      | else-not-is_wide_at w ↦ subst (Reaches a cells p) (sym w.to-is) (record { sole = c.new-to.ensures.sole; forth = omega arith })
+    ] in
+    let two : Reaches a cells p c.if-is_wide_at.to = elim c.if-is_wide_at.branch [
+      | then-is_wide_at+then-not-is_over w ↦ subst (Reaches a cells p) (sym w.to-is)
+          (record { sole = w.follow_any-to.ensures.reaches.sole; forth = omega (arith, one.forth, w.follow_any-to.ensures.reaches.forth) })
+      | else-is_wide_at w ↦ subst (Reaches a cells p) (sym w.to-is) one
+    ] in
+    let to = c.if-is_wide_at.to in
     ap (option_map ends_in) c.span_from.ensures
-    ∙ going_over c.args.attempt.now sole.0 _ (match_from to.start to.end) to.stand.place to.stand.place deep
-    (sym (row_ways c.origin.new.cells.rows.lists.items to.stand.next sole.0 sole.1.waits) ∙ c.is_over.ensures.over c.if-is_over.true)
-    (match_found to.start to.end (c.is_over.ensures.found c.if-is_over.true)) begun sole.1.going
+    ∙ going_over a two.sole.0 _ (match_from to.start to.end) to.stand.place to.stand.place deep
+    (sym (row_ways cells.rows.lists.items to.stand.next two.sole.0 two.sole.1.waits) ∙ c.is_over-2.ensures.over c.if-is_over.true)
+    (match_found to.start to.end (c.is_over-2.ensures.found c.if-is_over.true)) begun two.sole.1.going
 
 pub returns-then-is_over-clause-kept : goal.returns-then-is_over-clause-kept
 returns-then-is_over-clause-kept c = record {
@@ -61,13 +123,37 @@ returns-then-is_over-clause-kept c = record {
 
 pub returns-clause-counts : goal.returns-clause-counts
 returns-clause-counts c =
-    counts_from (code_len c.args.attempt.now.code.now) c.args.attempt.now.base c.follow-to.result.stand.place (c.args.attempt.now.last + 1)
-    (omega (arith, c.next_place-place.ensures.forth, c.new.ensures.place, c.follow-to.ensures.reaches.forth)) c.trace.ensures.counts
+    let a = c.args.attempt.now in
+    let cells = c.origin.new.cells in
+    let p = c.new-to.result.stand.place in
+    let one : Reaches a cells p c.if-not-is_wide_at.to = elim c.if-not-is_wide_at.branch [
+      | then-not-is_wide_at w ↦ subst (Reaches a cells p) (sym w.to-is) w.follow-to.ensures.reaches
+      | else-not-is_wide_at w ↦ subst (Reaches a cells p) (sym w.to-is) (record { sole = c.new-to.ensures.sole; forth = omega arith })
+    ] in
+    let two : Reaches a cells p c.if-is_wide_at.to = elim c.if-is_wide_at.branch [
+      | then-is_wide_at+then-not-is_over w ↦ subst (Reaches a cells p) (sym w.to-is)
+          (record { sole = w.follow_any-to.ensures.reaches.sole; forth = omega (arith, one.forth, w.follow_any-to.ensures.reaches.forth) })
+      | else-is_wide_at w ↦ subst (Reaches a cells p) (sym w.to-is) one
+    ] in
+    counts_from (code_len a.code.now) a.base c.if-is_wide_at.to.stand.place (a.last + 1)
+    (omega (arith, c.next_place-place.ensures.forth, c.new-to.ensures.place, two.forth)) c.trace.ensures.counts
 
 pub returns-in_err-found-clause-counts : goal.returns-in_err-found-clause-counts
 returns-in_err-found-clause-counts c =
-    counts_from (code_len c.args.attempt.now.code.now) c.args.attempt.now.base c.follow-to.result.stand.place (c.args.attempt.now.last + 1)
-    (omega (arith, c.next_place-place.ensures.forth, c.new.ensures.place, c.follow-to.ensures.reaches.forth)) c.trace.ensures.counts
+    let a = c.args.attempt.now in
+    let cells = c.origin.new.cells in
+    let p = c.new-to.result.stand.place in
+    let one : Reaches a cells p c.if-not-is_wide_at.to = elim c.if-not-is_wide_at.branch [
+      | then-not-is_wide_at w ↦ subst (Reaches a cells p) (sym w.to-is) w.follow-to.ensures.reaches
+      | else-not-is_wide_at w ↦ subst (Reaches a cells p) (sym w.to-is) (record { sole = c.new-to.ensures.sole; forth = omega arith })
+    ] in
+    let two : Reaches a cells p c.if-is_wide_at.to = elim c.if-is_wide_at.branch [
+      | then-is_wide_at+then-not-is_over w ↦ subst (Reaches a cells p) (sym w.to-is)
+          (record { sole = w.follow_any-to.ensures.reaches.sole; forth = omega (arith, one.forth, w.follow_any-to.ensures.reaches.forth) })
+      | else-is_wide_at w ↦ subst (Reaches a cells p) (sym w.to-is) one
+    ] in
+    counts_from (code_len a.code.now) a.base c.if-is_wide_at.to.stand.place (a.last + 1)
+    (omega (arith, c.next_place-place.ensures.forth, c.new-to.ensures.place, two.forth)) c.trace.ensures.counts
 
 pub returns-clause-idle : goal.returns-clause-idle
 returns-clause-idle c none =

@@ -5,16 +5,10 @@ use Rattle.fancy_automaton.proofs.front.Front.pass.Goals as goal
 pub hop-requires : goal.hop-requires
 hop-requires c = record { stands = c.requires.stands }
 
-pub skim-requires : goal.skim-requires
-skim-requires c = record {
-  stands = still_stands c.args.attempt.now c.args.cells.now c.hop.new.self c.args.place c.in_ok-hopped.hopped
-      (omega (arith, c.in_ok-hopped.ensures.forth, c.if-hopped-place.false)) c.requires.stands.good c.requires.stands.within c.in_ok-hopped.ensures.front;
-}
-
 pub advance-requires : goal.advance-requires
 advance-requires c = record {
-  stands = still_stands c.args.attempt.now c.args.cells.now c.skim.new.self c.args.place c.in_ok-skimmed.skimmed
-      (omega (arith, c.in_ok-skimmed.ensures.forth, c.if-skimmed-place.false)) c.requires.stands.good c.requires.stands.within c.in_ok-skimmed.ensures.front;
+  stands = still_stands c.args.attempt.now c.args.cells.now c.hop.new.self c.args.place c.in_ok-hopped.hopped
+      (omega (arith, c.in_ok-hopped.ensures.forth, c.if-hopped-place.false)) c.requires.stands.good c.requires.stands.within c.in_ok-hopped.ensures.front;
 }
 
 pub returns-clause-front : goal.returns-clause-front

@@ -1,0 +1,9 @@
+use Rattle.std.proofs.Common.{List, subst}
+use Rattle.std.specs.Prelude.{IfSome}
+use Rattle.fancy_states.specs.declared.cells.Cell.{Cell}
+use Rattle.fancy_states.specs.Cells.{HasCell}
+use Rattle.fancy_states.proofs.cells.told_apart.Goals as goal
+
+pub returns-in-Quiet : goal.returns-in-Quiet
+returns-in-Quiet c =
+    subst (λ (cs : List Cell). IfSome c.tested_cell.result (λ k. HasCell cs k c.args.row c.args.sight)) c.deref-in-Quiet.ensures.value c.tested_cell.ensures
