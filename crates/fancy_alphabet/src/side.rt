@@ -156,7 +156,7 @@ impl Tests {
     }
 
     /// What they tell apart of what stands before a place, a byte offset.
-    #[inline]
+    #[inline(always)]
     pub fn before(self, attempt: &Attempt, place: usize) -> Side
         requires { place ≤ length attempt.now.haystack.now }
         ensures { IsBeforeAs (context_in attempt.now) place self result }

@@ -28,7 +28,7 @@ use fancy_input::refusal::SearchRefusal;
 use fancy_input::span::Span;
 use fancy_input::work::Work;
 use fancy_meaning::options::SearchOptions;
-use fancy_states::cells::{Cells, MORE_ROOM, ROOM, origin};
+use fancy_states::cells::{Cells, origin};
 use fancy_states::trail::span_from;
 use std::alloc::AllocError;
 
@@ -188,7 +188,6 @@ pub fn find(
         suppressed: options.suppressed_ends(request),
         step_limit: None,
     };
-    cells.room = ROOM.saturating_add(haystack.len().min(MORE_ROOM));
     let found = span_in(&attempt, request.anchored, cells, work)?;
     Ok(found_by(found))
 }

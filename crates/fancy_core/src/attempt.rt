@@ -49,21 +49,21 @@ pub fn find_at(
     notes: &mut AttemptNotes,
     cache: &mut AttemptCache,
 ) -> Result<Option<Found>>
-    requires starts { effective_start asked.now.request ≤ position }
-    requires ends { position ≤ asked.now.request.range_end }
+    requires starts { effective_start asked.now.request.now ≤ position }
+    requires ends { position ≤ asked.now.request.now.range_end }
     requires known { AreKnown cache.old.known asked.now.haystack.now }
     requires notes { KeepsNotes (program_in regex.now)
-        asked.now.haystack.now asked.now.request position notes.old }
+        asked.now.haystack.now asked.now.request.now position notes.old }
     ensures notes { IfOk result (λ m. KeepsNotes (program_in regex.now)
-        asked.now.haystack.now asked.now.request (kept_from m position) notes.new) }
+        asked.now.haystack.now asked.now.request.now (kept_from m position) notes.new) }
     ensures known { AreKnown cache.new.known asked.now.haystack.now }
     ensures bounded { easy_in regex.now ≡ true → steps_of cache.new.work ≤ steps_of cache.old.work
-        + notes_to_go (program_in regex.now) asked.now.request position notes.old }
+        + notes_to_go (program_in regex.now) asked.now.request.now position notes.old }
     ensures spent { easy_in regex.now ≡ true → IfOk result (λ m. IfNone m
         (steps_of cache.new.work
-        + notes_ahead (program_in regex.now) asked.now.request (position + 1) notes.new
+        + notes_ahead (program_in regex.now) asked.now.request.now (position + 1) notes.new
         ≤ steps_of cache.old.work
-        + notes_to_go (program_in regex.now) asked.now.request position notes.old)) }
+        + notes_to_go (program_in regex.now) asked.now.request.now position notes.old)) }
     ensures paired { returns_of cache.old.work ≤ steps_of cache.old.work
         → returns_of cache.new.work ≤ steps_of cache.new.work }
     ensures limit { IsWithin (step_limit_in regex.now) cache.old.work
@@ -97,13 +97,13 @@ pub fn find_in_list(
     notes: &mut AttemptNotes,
     cache: &mut AttemptCache,
 ) -> Result<Option<Found>>
-    requires starts { effective_start asked.now.request ≤ position }
-    requires ends { position ≤ asked.now.request.range_end }
+    requires starts { effective_start asked.now.request.now ≤ position }
+    requires ends { position ≤ asked.now.request.now.range_end }
     requires known { AreKnown cache.old.known asked.now.haystack.now }
     requires notes { KeepsNotes (program_in regex.now)
-        asked.now.haystack.now asked.now.request position notes.old }
+        asked.now.haystack.now asked.now.request.now position notes.old }
     ensures notes { IfOk result (λ m. KeepsNotes (program_in regex.now)
-        asked.now.haystack.now asked.now.request (kept_from m position) notes.new) }
+        asked.now.haystack.now asked.now.request.now (kept_from m position) notes.new) }
     ensures known { AreKnown cache.new.known asked.now.haystack.now }
     ensures paired { returns_of cache.old.work ≤ steps_of cache.old.work
         → returns_of cache.new.work ≤ steps_of cache.new.work }
@@ -142,8 +142,8 @@ pub fn find_hard(
     cache: &mut AttemptCache,
 ) -> Result<Option<Found>>
     requires hard { easy_in regex.now ≡ false }
-    requires starts { effective_start asked.now.request ≤ position }
-    requires ends { position ≤ asked.now.request.range_end }
+    requires starts { effective_start asked.now.request.now ≤ position }
+    requires ends { position ≤ asked.now.request.now.range_end }
     requires known { AreKnown cache.old.known asked.now.haystack.now }
     ensures known { AreKnown cache.new.known asked.now.haystack.now }
     ensures paired { returns_of cache.old.work ≤ steps_of cache.old.work
@@ -182,7 +182,7 @@ pub fn find_one_item(
     position: usize,
     cache: &mut Cache,
 ) -> Option<Option<Found>>
-    requires ends { position ≤ asked.now.request.range_end }
+    requires ends { position ≤ asked.now.request.now.range_end }
     ensures easy { IfSome result (λ _. easy_in regex.now ≡ true) }
     ensures found { IfSome result (λ m.
         IsAttemptIn m cache.new (query_in (program_in regex.now) asked.now) position) }
@@ -199,10 +199,10 @@ pub fn find_told(
     notes: &AttemptNotes,
     cache: &mut Cache,
 ) -> Option<Option<Found>>
-    requires starts { effective_start asked.now.request ≤ position }
-    requires ends { position ≤ asked.now.request.range_end }
+    requires starts { effective_start asked.now.request.now ≤ position }
+    requires ends { position ≤ asked.now.request.now.range_end }
     requires notes { KeepsNotes (program_in regex.now)
-        asked.now.haystack.now asked.now.request position notes.now }
+        asked.now.haystack.now asked.now.request.now position notes.now }
     ensures easy { IfSome result (λ _. easy_in regex.now ≡ true) }
     ensures found { IfSome result (λ m.
         IsAttemptIn m cache.new (query_in (program_in regex.now) asked.now) position) }

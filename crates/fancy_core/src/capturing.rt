@@ -121,7 +121,7 @@ impl Regex {
         let asked = Asked {
             haystack: haystack.as_bytes(),
             text: haystack.is_text(),
-            request,
+            request: &request,
             continues: true,
         };
         let found = self.program.search(&asked, cache, &mut work)?;

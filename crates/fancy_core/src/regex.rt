@@ -365,7 +365,7 @@ impl Regex {
         let asked = Asked {
             haystack: haystack.as_bytes(),
             text: haystack.is_text(),
-            request,
+            request: &request,
             continues: true,
         };
         let found = self.program.find(&asked, work)?;

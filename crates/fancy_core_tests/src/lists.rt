@@ -63,7 +63,7 @@ fn steps_of_list(rt: &impl Abort, alloc: Global, program: &Program, text: &str) 
         let asked = Asked {
             haystack,
             text: true,
-            request,
+            request: &request,
             continues: true,
         };
         let answer = program.search_next(&asked, &mut kept, &mut known, &mut cache, &mut work);

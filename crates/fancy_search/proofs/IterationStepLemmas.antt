@@ -1,5 +1,6 @@
 -- Lemmas on one step of an iteration, over a haystack of any type.
 use Rattle.std.proofs.Common.{ℕ, ◌≡◌, Bool, true, false, not, ◌&&◌, nat_eq, List, ◌∷◌, Some, refl, sym, ◌∙◌, ap, subst}
+use Rattle.std.proofs.lemmas.Option.{same_Some}
 use Rattle.std.specs.Cmp.Derive.{both_true}
 use Rattle.fancy_input.specs.declared.input.Request.{Request}
 use Rattle.fancy_input.specs.Places.{next_place}
@@ -7,11 +8,11 @@ use Rattle.fancy_search.specs.declared.cache.Cache.{Cache}
 use Rattle.fancy_input.specs.Spans.{from_to}
 use Rattle.fancy_search.specs.declared.program.Program.{Program}
 use Rattle.fancy_search.specs.declared.searcher.FoundItem.{FoundItem}
-use Rattle.fancy_search.specs.MatchList.{Scan, MatchItem, start_of, stop_of, answer, Sound}
+use Rattle.fancy_search.specs.MatchList.{Scan, MatchItem, start_of, stop_of, is_empty_item, answer, Sound}
 use Rattle.fancy_tree.specs.declared.error.Error.{Error}
-use Rattle.fancy_search.specs.Remaining.{Standing, standing_after, PassesOver, AllowsNext, refuses_at, refused_next, allows_at, at_next, scan, upcoming, next_start, items_left, items_end}
+use Rattle.fancy_search.specs.Remaining.{Standing, standing_after, PassesOver, RefusesNext, AllowsNext, refuses_at, refused_next, allows_at, at_first, at_next, scan, upcoming, next_start, items_left, items_end}
 use Rattle.fancy_search.specs.FoundItems.{item_in}
-use Rattle.fancy_search.proofs.RemainingLemmas.{nat_same, upcoming_if, skips, next_left, next_end}
+use Rattle.fancy_search.proofs.RemainingLemmas.{nat_same, upcoming_if, start_if, skips, moves, next_left, next_end}
 
 scan_moved : (p : Program) (t : Bool) (bs : List ℕ) (r q : Request) (s : ℕ) → q ≡ record r { start = s } → scan p t bs q ≡ scan p t bs r
 scan_moved p t bs r q s e = ap (scan p t bs) e
@@ -42,6 +43,28 @@ refuses_passed tx by p h g r q b c d ended i begin end eg ea eb es ef en ee eq e
 pub allows_passed : {H : Type 0} (tx : H → Bool) (by : H → List ℕ) (p : Program) (h g : H) (r q : Request) (st : Standing) (d : Bool) (end : ℕ) → g ≡ h → end ≡ r.start → st.start ≡ r.start → q ≡ record r { start = next_place (tx h) (by h) end } → d ≡ false
     → allows_at p (by h) r st.start st.continues → allows_at p (by g) q q.start d → AllowsNext (allows_at p (by h) r) (scan p (tx h) (by h) r) st
 allows_passed tx by p h g r q st d end eg ee et eq ed first next = record { first = first; next = λ j passes. rw et (rw (eg, eq, ed, ee) at next) }
+
+-- and where the search after it starts
+pub passes_start : {H : Type 0} (tx : H → Bool) (by : H → List ℕ) (p : Program) (h g : H) (r q : Request) (a b c d : Bool) (i : MatchItem) (begin end : ℕ) → g ≡ h → answer (scan p (tx h) (by h) r) r.start c ≡ Some i → b ≡ true → begin ≡ start_of i → end ≡ stop_of i → begin ≡ end → end ≡ r.start → q ≡ record r { start = next_place (tx h) (by h) end } → a ≡ false → start_if a (scan p (tx g) (by g) q) q.start d ≡ start_if b (scan p (tx h) (by h) r) r.start c
+passes_start tx by p h g r q a b c d i begin end eg ea eb es ef en ee eq off =
+    let k = scan p (tx h) (by h) r in
+    let starts : start_of i ≡ r.start = sym es ∙ (en ∙ ee) in
+    let stops : stop_of i ≡ r.start = sym ef ∙ ee in
+    let moved : start_if true k r.start c ≡ k.advance r.start = moves k r.start c i ea (both_true {s = nat_eq (start_of i) (stop_of i)} {t = nat_eq (stop_of i) r.start} (rw (starts, stops) (nat_same r.start)) (rw stops (nat_same r.start))) in
+    rw (eb, off, eq, moved, ee) refl
+
+-- where none is passed over, a refusal of the next item is one of the next search
+pub refuses_first : (refuses : ℕ → Bool → Error → Type 0) (k : Scan) (st : Standing) (e : Error) → st.skips_empty ≡ false → RefusesNext refuses k st e → refuses st.start st.continues e
+refuses_first refuses k st e off (at_first x) = x
+refuses_first refuses k st e off (at_next i over x) = let no : false ≡ true = sym off ∙ over.skips in absurd (cc)
+
+-- where this item is found, and not passed over, none is
+pub not_passed : (k : Scan) (st : Standing) (i j : MatchItem) → answer k st.start st.continues ≡ Some i → (st.skips_empty && (is_empty_item i && nat_eq (stop_of i) st.start)) ≡ false → PassesOver k st j → ⊥
+not_passed k st i j e h over =
+    let same : i ≡ j = same_Some i j (sym e ∙ over.found) in
+    let on : (st.skips_empty && (is_empty_item j && nat_eq (stop_of j) st.start)) ≡ true = rw (over.skips, over.empty, over.there) (nat_same st.start) in
+    let off : (st.skips_empty && (is_empty_item j && nat_eq (stop_of j) st.start)) ≡ false = subst (λ (x : MatchItem). (st.skips_empty && (is_empty_item x && nat_eq (stop_of x) st.start)) ≡ false) same h in
+    let no : true ≡ false = sym on ∙ off in absurd (cc)
 
 -- where an iteration stands, by its parts
 abbrev pub the_standing : ℕ → Bool → Bool → Bool → Standing

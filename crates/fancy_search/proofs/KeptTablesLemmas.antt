@@ -112,9 +112,9 @@ noted_later program haystack request place later notes le is =
 
 -- it is kept on by an attempt that does not use it
 pub noted_past : (program : Program) (asked : Asked) (position : ℕ) (notes : AttemptNotes) (m : Option Found) → IfSome m (StandsIn program asked)
-    → KeepsNotes program asked.haystack.now asked.request position notes → KeepsNotes program asked.haystack.now asked.request (kept_from m position) notes
+    → KeepsNotes program asked.haystack.now asked.request.now position notes → KeepsNotes program asked.haystack.now asked.request.now (kept_from m position) notes
 noted_past program asked position notes None stands is = is
-noted_past program asked position notes (Some f) stands is = noted_later program asked.haystack.now asked.request position (kept_from (Some f) position) notes (at (nat_eq f.start position) refl) is where
+noted_past program asked position notes (Some f) stands is = noted_later program asked.haystack.now asked.request.now position (kept_from (Some f) position) notes (at (nat_eq f.start position) refl) is where
   at : (b : Bool) → nat_eq f.start position ≡ b → position ≤ (if b then f.end else position)
   at true e = omega (arith, stands.ordered, eqb-true f.start position e)
   at false e = omega arith

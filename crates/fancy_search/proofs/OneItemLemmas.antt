@@ -120,7 +120,7 @@ one_item_found q code is meant inside p past one within =
     (sym g.2 ∙ run_is (context_of q) q.request.range_end (instrs_of code) (get_or_from_slice_get (instrs_of code) 0 Match Fail is.matching) (initial q p) v code.start past one (depth (length q.haystack) q.sought.pattern + 1) g.0 g.1)
 
 -- what an attempt with a program of one item answers
-pub one_item_at : (r : Program) (asked : Asked) (p : ℕ) (past : Option ℕ) → p ≤ asked.request.range_end
+pub one_item_at : (r : Program) (asked : Asked) (p : ℕ) (past : Option ℕ) → p ≤ asked.request.now.range_end
     → ((x : Context) → x.meaning ≡ r.code.meaning → x.haystack ≡ asked.haystack.now → ReadsOne x (instr_at (instrs_of r.code) r.code.start) p past)
     → attempt (query_in r asked) p ≡ answer_to (query_in r asked) p past
 one_item_at r asked p past within reads =

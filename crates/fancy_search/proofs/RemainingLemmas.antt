@@ -30,6 +30,13 @@ standing_start k i false h = rw h refl
 pub skips : (k : Scan) (s : ℕ) (c : Bool) (i : MatchItem) → answer k s c ≡ Some i → (is_empty_item i && nat_eq (stop_of i) s) ≡ true → upcoming_if true k s c ≡ answer k (k.advance s) false
 skips k s c i e h = rw (e, h) refl
 
+pub moves : (k : Scan) (s : ℕ) (c : Bool) (i : MatchItem) → answer k s c ≡ Some i → (is_empty_item i && nat_eq (stop_of i) s) ≡ true → start_if true k s c ≡ k.advance s
+moves k s c i e h = rw (e, h) refl
+
+-- where none is passed over, the next item is the next answer
+pub unskipped : (k : Scan) (s : ℕ) (c b : Bool) → b ≡ false → upcoming_if b k s c ≡ answer k s c
+unskipped k s c b e = rw e refl
+
 pub keeps : (k : Scan) (s : ℕ) (c b : Bool) (i : MatchItem) → answer k s c ≡ Some i → (b && (is_empty_item i && nat_eq (stop_of i) s)) ≡ false → upcoming_if b k s c ≡ Some i
 keeps k s c true i e h = rw (e, h) refl
 keeps k s c false i e h = e

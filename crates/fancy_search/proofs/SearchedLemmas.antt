@@ -59,7 +59,7 @@ module _ (r : Program) (asked : Asked) (groups : List (Option Span)) where
       let within = answer_within (query_in r asked) _ asked.inside (sym e) in
       record { ordered = (within.forward r.starts).to; inside = within.ends; cleanly = λ on. (within.accepted.keeps on, within.accepted.ends on) }
 
-  pub attempt_stands : (p : ℕ) → p ≤ asked.request.range_end → (m : Option Found) → answer_with groups m ≡ attempt (query_in r asked) p → IfSome m (StandsIn r asked)
+  pub attempt_stands : (p : ℕ) → p ≤ asked.request.now.range_end → (m : Option Found) → answer_with groups m ≡ attempt (query_in r asked) p → IfSome m (StandsIn r asked)
   attempt_stands p to None e = tt
   attempt_stands p to (Some f) e =
       let within = attempt_within (query_in r asked) p _ asked.inside to (sym e) in
@@ -85,10 +85,10 @@ lacking_as_told r asked = lacks_one (required_bytes (meaning_in (program_options
 
 -- nor where a text is
 pub text_lacking_none : (r : Program) (asked : Asked) (text : List ℕ) → r.text_required ≡ Some text
-    → ¬ StandsFrom asked.haystack.now (effective_start asked.request) asked.request.range_end text → search (query_in r asked) ≡ None
+    → ¬ StandsFrom asked.haystack.now (effective_start asked.request.now) asked.request.now.range_end text → search (query_in r asked) ≡ None
 text_lacking_none r asked text is lacks =
     text_lacking_is_none (query_in r asked)
-    (subst (λ (t : List ℕ). ¬ StandsFrom asked.haystack.now (effective_start asked.request) asked.request.range_end t) (r.held text is) lacks)
+    (subst (λ (t : List ℕ). ¬ StandsFrom asked.haystack.now (effective_start asked.request.now) asked.request.now.range_end t) (r.held text is) lacks)
 
 both_are : (a b : Bool) → a ≡ true → b ≡ true → (a && b) ≡ true
 both_are true b e f = f
@@ -142,8 +142,8 @@ nowhere r haystack request on before after bytes none idle =
     idle (none_may_start q bytes r.code.prefilter.starts (subst (λ (m : Meaning). AreStartBytes m q.sought.pattern r.code.prefilter.starts) r.meant compiled.coded.starts) (not_seeking (program_options r).seek q none)))
 
 -- of an easy program the search that is anchored at a position is the attempt there
-pub attempted : (r : Program) (asked : Asked) (p : ℕ) → program_is_easy r ≡ true → IsPosition asked.request p
-    → search (asked_of r asked.haystack.now (anchored_at asked.request p) false) ≡ attempt (query_in r asked) p
+pub attempted : (r : Program) (asked : Asked) (p : ℕ) → program_is_easy r ≡ true → IsPosition asked.request.now p
+    → search (asked_of r asked.haystack.now (anchored_at asked.request.now p) false) ≡ attempt (query_in r asked) p
 attempted r asked p easy tries =
     let parts = parts_of_easy _ _ _ easy in
     known _ _ r.compiled

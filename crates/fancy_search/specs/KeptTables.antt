@@ -104,8 +104,8 @@ kept_from (Some f) position = if nat_eq f.start position then f.end else positio
 
 -- what an attempt at a position leaves is kept from there on, and after a refusal for another attempt at it
 pub record LeavesNotes (program : Program) (asked : Asked) (position : ℕ) (result : Result (Option Found) Error) (notes : AttemptNotes) : Type 0 where
-  pub after : IfOk result (λ m. KeepsNotes program asked.haystack.now asked.request (kept_from m position) notes)
-  pub dropped : IfErr result (λ _. KeepsNotes program asked.haystack.now asked.request position notes)
+  pub after : IfOk result (λ m. KeepsNotes program asked.haystack.now asked.request.now (kept_from m position) notes)
+  pub dropped : IfErr result (λ _. KeepsNotes program asked.haystack.now asked.request.now position notes)
 
 -- so many steps are ahead of the attempts at `place` and later: what the marks are worth that were not made, and a start at each
 -- position; where no table is kept, one for each pair of an instruction and a place
@@ -132,7 +132,7 @@ IsKeptIn program haystack request kept place cache =
 
 -- and for those that ask the same, but start at `place` or later
 abbrev pub IsKeptFor : Program → Asked → Kept → ℕ → Cache → Type 0
-IsKeptFor program asked kept place cache = IsKeptIn program asked.haystack.now asked.request kept place cache
+IsKeptFor program asked kept place cache = IsKeptIn program asked.haystack.now asked.request.now kept place cache
 
 -- what the iteration keeps is for searches that start at `place` or later
 abbrev pub KeepsFrom : {S : Type 0} {g : _} → (S → List ℕ) → Program → Searcher S g → Cache → ℕ → Type 0

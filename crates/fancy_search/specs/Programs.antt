@@ -71,4 +71,4 @@ asked_of p haystack request on =
 
 -- the query that it is, where this is asked of the program
 abbrev pub query_in : Program → Asked → Query
-query_in p asked = asked_of p asked.haystack.now asked.request asked.continues
+query_in p asked = asked_of p asked.haystack.now asked.request.now asked.continues

@@ -24,7 +24,7 @@ pub record IsPosition (request : Request) (position : ℕ) : Type 0 where
 -- What was found ends where it starts or later, within the range, and on whole characters where matches do.
 pub record StandsIn (r : Program) (asked : Asked) (f : Found) : Type 0 where
   pub ordered : f.start ≤ f.end
-  pub inside : f.end ≤ asked.request.range_end
+  pub inside : f.end ≤ asked.request.now.range_end
   pub cleanly : KeepsCharacters r → IsCleanlyFound asked.haystack.now f
 
 -- No count falls, each return is a step, and the limit of steps is heeded: where the answer is that refusal, all is done that it allows.

@@ -13,9 +13,9 @@ pub struct Asked<'h> {
     /// Whether the haystack is known to be text.
     pub text: bool,
     /// Where a match is wanted.
-    pub request: Request,
+    pub request: &'h Request,
     /// Whether `\G` is on.
     pub continues: bool,
-    pub ghost inside: { request.range_end ≤ length haystack.now },
+    pub ghost inside: { request.now.range_end ≤ length haystack.now },
     pub ghost utf8: { text ≡ true → IsUtf8 haystack.now } by { Prim.hlevel props },
 }

@@ -17,6 +17,9 @@ use fancy_runner::search as runner;
 use fancy_states::cells::Cells;
 use std::alloc::{AllocError, Global};
 
+/// So many bytes past the end of its match a search may read, and it is not noted how far it read.
+const NEAR: usize = 8;
+
 /// Which engine served a search.
 #[derive(Clone, Copy, PartialEq, Eq)]
 pub enum Engine {
@@ -67,11 +70,10 @@ impl Kept {
     ) -> bool
         ensures { result ≡ true → table_kept self.now ≡ None }
     {
-        match self {
-            Kept::Nothing => is_long_enough(haystack, first, end, shortest),
-            Kept::Steps => true,
-            Kept::Runner(_) | Kept::Lines => false,
+        if matches!(self, Kept::Steps) {
+            return true;
         }
+        matches!(self, Kept::Nothing) && is_long_enough(haystack, first, end, shortest)
     }
 
     /// Whether it is kept what the machine read.
@@ -100,10 +102,10 @@ impl RememberedSteps {
         }
     }
 
-    /// Makes them ready for a search that begins at `first`, a byte offset: those of the searches before stay, where they are kept,
-    /// and else none is remembered. They are kept then.
+    /// Makes them ready for a search of a haystack of so many bytes that begins at `first`, a byte offset: those of the searches
+    /// before stay, where they are kept, and else none is remembered. They are kept then.
     #[inline(always)]
-    pub(crate) fn ready(&mut self, kept: &mut Kept, first: usize)
+    pub(crate) fn ready(&mut self, kept: &mut Kept, bytes: usize, first: usize)
         requires within { is_steps kept.old ≡ true → IsBounded self.old.cells }
         ensures within { IsBounded self.new.cells }
         ensures all { (code : Code) → (is_steps kept.old ≡ true → Remembers self.old.cells code)
@@ -113,17 +115,17 @@ impl RememberedSteps {
         if matches!(kept, Kept::Steps) {
             return;
         }
-        self.begin(first);
+        self.begin(bytes, first);
         *kept = Kept::Steps;
     }
 
-    /// Forgets all, before searches of which the first begins at `first`, a byte offset.
+    /// Forgets all, before searches of a haystack of so many bytes, of which the first begins at `first`, a byte offset.
     #[inline(never)]
-    fn begin(&mut self, first: usize)
+    fn begin(&mut self, bytes: usize, first: usize)
         ensures within { IsBounded self.new.cells }
         ensures all { (code : Code) → Remembers self.new.cells code }
     {
-        self.cells.clear();
+        self.cells.clear(bytes);
         self.read = ReadPast::new(first);
     }
 
@@ -133,7 +135,11 @@ impl RememberedSteps {
     pub(crate) fn serve_on(&mut self, end: usize) -> bool
         ensures cells { self.new.cells ≡ self.old.cells }
     {
-        self.read.add(end, self.cells.reached());
+        let past = self.cells.reached().saturating_sub(end);
+        if past <= NEAR {
+            return true;
+        }
+        self.read.add(past);
         self.read.is_little_before(end)
     }
 }

@@ -330,12 +330,12 @@ impl Program {
         cache: &mut Cache,
         work: &mut Work,
     ) -> Result<Option<Found>>
-        requires room { HasRoomFor self.now asked.now.request work.old }
+        requires room { HasRoomFor self.now asked.now.request.now work.old }
         ensures served { Serves self.now asked.now result cache.old cache.new work.old work.new }
         ensures bounded { program_is_easy self.now ≡ true
-            → steps_of work.new ≤ steps_of work.old + step_bound self.now asked.now.request }
+            → steps_of work.new ≤ steps_of work.old + step_bound self.now asked.now.request.now }
         ensures unlimited { program_is_easy self.now ≡ true
-            → AllowsAllSteps self.now asked.now.request work.old → IsOutOfSteps result → ⊥ }
+            → AllowsAllSteps self.now asked.now.request.now work.old → IsOutOfSteps result → ⊥ }
     {
         let mut kept = Kept::Nothing;
         let mut known = KnownBytes::new();
@@ -345,12 +345,12 @@ impl Program {
     /// The first match, as [`Program::search`] finds it, without its groups. What the engine works in is made for this search, and only
     /// where it comes to one.
     pub fn find(&self, asked: &Asked<'_>, work: &mut Work) -> Result<Option<Found>>
-        requires room { HasRoomFor self.now asked.now.request work.old }
+        requires room { HasRoomFor self.now asked.now.request.now work.old }
         ensures served { ServesAlone self.now asked.now result work.old work.new }
         ensures bounded { program_is_easy self.now ≡ true
-            → steps_of work.new ≤ steps_of work.old + step_bound self.now asked.now.request }
+            → steps_of work.new ≤ steps_of work.old + step_bound self.now asked.now.request.now }
         ensures unlimited { program_is_easy self.now ≡ true
-            → AllowsAllSteps self.now asked.now.request work.old → IsOutOfSteps result → ⊥ }
+            → AllowsAllSteps self.now asked.now.request.now work.old → IsOutOfSteps result → ⊥ }
     {
         let mut known = KnownBytes::new();
         if self.is_hopeless(asked, &mut known) {
@@ -366,15 +366,15 @@ impl Program {
     fn find_easily(&self, asked: &Asked<'_>, work: &mut Work) -> Result<Option<Found>>
         requires easy { program_is_easy self.now ≡ true }
         requires hopeful { is_hopeless self.now (query_in self.now asked.now) ≡ false }
-        requires room { HasRoomFor self.now asked.now.request work.old }
+        requires room { HasRoomFor self.now asked.now.request.now work.old }
         ensures served { ServesAlone self.now asked.now result work.old work.new }
         ensures bounded { steps_of work.new
-            ≤ steps_of work.old + step_bound self.now asked.now.request }
-        ensures unlimited { AllowsAllSteps self.now asked.now.request work.old
+            ≤ steps_of work.old + step_bound self.now asked.now.request.now }
+        ensures unlimited { AllowsAllSteps self.now asked.now.request.now work.old
             → IsOutOfSteps result → ⊥ }
     {
-        if self.is_followed(asked, &Kept::Nothing) && self.allows_all_steps(asked.request, work) {
-            return self.find_by_steps(asked.haystack, asked.request, work);
+        if self.is_followed(asked, &Kept::Nothing) && self.allows_all_steps(*asked.request, work) {
+            return self.find_by_steps(asked.haystack, *asked.request, work);
         }
         let mut table = None;
         let mut runner = runner::Cache::new(*self.text.allocator());
@@ -415,7 +415,7 @@ impl Program {
     fn find_hard(&self, asked: &Asked<'_>, work: &mut Work) -> Result<Option<Found>>
         requires hard { IsHardProgram self.now }
         requires hopeful { is_hopeless self.now (query_in self.now asked.now) ≡ false }
-        requires room { HasRoomFor self.now asked.now.request work.old }
+        requires room { HasRoomFor self.now asked.now.request.now work.old }
         ensures served { ServesAlone self.now asked.now result work.old work.new }
     {
         let mut cache = machine::Cache::new(*self.text.allocator());
@@ -437,24 +437,24 @@ impl Program {
         cache: &mut Cache,
         work: &mut Work,
     ) -> Result<Option<Found>>
-        requires room { HasRoomFor self.now asked.now.request work.old }
+        requires room { HasRoomFor self.now asked.now.request.now work.old }
         requires known { AreKnown known.old asked.now.haystack.now }
         requires kept { IsKeptFor self.now asked.now kept.old
-            (effective_start asked.now.request) cache.old }
+            (effective_start asked.now.request.now) cache.old }
         ensures known { AreKnown known.new asked.now.haystack.now }
         ensures served { Serves self.now asked.now result cache.old cache.new work.old work.new }
         ensures kept { IfFound result (λ f. IsKeptFor self.now asked.now kept.new f.end cache.new) }
         ensures fresh { program_is_easy self.now ≡ true → kept.old ≡ Kept.Nothing
-            → steps_of work.new ≤ steps_of work.old + step_bound self.now asked.now.request }
+            → steps_of work.new ≤ steps_of work.old + step_bound self.now asked.now.request.now }
         ensures bounded { program_is_easy self.now ≡ true
-            → TakesStepsToGo self.now asked.now.request kept.old cache.old work.old work.new }
+            → TakesStepsToGo self.now asked.now.request.now kept.old cache.old work.old work.new }
         ensures spent { program_is_easy self.now ≡ true → IfFound result (λ f. SpendsSteps
-            self.now asked.now.request kept.old cache.old work.old
+            self.now asked.now.request.now kept.old cache.old work.old
             kept.new cache.new work.new f.end) }
         ensures goes_on { program_is_easy self.now ≡ true
             → IfFound result (λ _. KeepsOn kept.old kept.new) }
         ensures unlimited { program_is_easy self.now ≡ true → kept.old ≡ Kept.Nothing
-            → AllowsAllSteps self.now asked.now.request work.old → IsOutOfSteps result → ⊥ }
+            → AllowsAllSteps self.now asked.now.request.now work.old → IsOutOfSteps result → ⊥ }
     {
         if self.is_hopeless(asked, known) {
             return Ok(None);
@@ -480,26 +480,26 @@ impl Program {
         work: &mut Work,
     ) -> Result<Option<Found>>
         requires easy { program_is_easy self.now ≡ true }
-        requires room { HasRoomFor self.now asked.now.request work.old }
+        requires room { HasRoomFor self.now asked.now.request.now work.old }
         requires kept { IsKeptFor self.now asked.now kept.old
-            (effective_start asked.now.request) cache.old }
+            (effective_start asked.now.request.now) cache.old }
         ensures served { ServesEasily self.now (query_in self.now asked.now) result
             cache.old cache.new work.old work.new }
         ensures kept { IfFound result (λ f. IsKeptFor self.now asked.now kept.new f.end cache.new) }
         ensures fresh { kept.old ≡ Kept.Nothing
-            → steps_of work.new ≤ steps_of work.old + step_bound self.now asked.now.request }
-        ensures bounded { TakesStepsToGo self.now asked.now.request
+            → steps_of work.new ≤ steps_of work.old + step_bound self.now asked.now.request.now }
+        ensures bounded { TakesStepsToGo self.now asked.now.request.now
             kept.old cache.old work.old work.new }
         ensures spent { IfFound result (λ f. SpendsSteps
-            self.now asked.now.request kept.old cache.old work.old
+            self.now asked.now.request.now kept.old cache.old work.old
             kept.new cache.new work.new f.end) }
         ensures goes_on { IfFound result (λ _. KeepsOn kept.old kept.new) }
         ensures unlimited { kept.old ≡ Kept.Nothing
-            → AllowsAllSteps self.now asked.now.request work.old → IsOutOfSteps result → ⊥ }
+            → AllowsAllSteps self.now asked.now.request.now work.old → IsOutOfSteps result → ⊥ }
     {
-        if self.is_followed(asked, kept) && self.allows_all_steps(asked.request, work) {
+        if self.is_followed(asked, kept) && self.allows_all_steps(*asked.request, work) {
             cache.served = Engine::WithoutGroups(self.code.groups);
-            return self.follow(asked.haystack, asked.request, kept, &mut cache.steps, work);
+            return self.follow(asked.haystack, *asked.request, kept, &mut cache.steps, work);
         }
         cache.served = Engine::Runner;
         let mut table = kept.table();
@@ -603,7 +603,7 @@ impl Program {
         ensures refused { IfErr result (λ e. e ≡ Error.Memory) }
     {
         let first = request.effective_start();
-        steps.ready(kept, first);
+        steps.ready(kept, haystack.len(), first);
         let options = self.options.for_search();
         match automaton::find(
             &self.code,
@@ -669,11 +669,14 @@ impl Program {
         ensures seeks { (program_options self.now).seek ≡ true → result ≡ true }
         ensures unasked { IsHardProgram self.now → result ≡ (program_options self.now).seek }
     {
+        if self.options.seek {
+            return true;
+        }
         let (haystack, request) = (asked.haystack, asked.request);
-        let searches_all = !request.anchored
-            && request.effective_start() == 0
-            && request.range_end == haystack.len();
-        self.options.seek || (self.easy && searches_all && !self.ends_soon(haystack))
+        if !self.easy || request.effective_start() > 0 {
+            return false;
+        }
+        !request.anchored && request.range_end == haystack.len() && !self.ends_soon(haystack)
     }
 
     /// Whether a search for an easy pattern that finds nothing ends as soon as a look for a byte does: by the text that each match
@@ -704,20 +707,20 @@ impl Program {
         cache: &mut AttemptCache,
         work: &mut Work,
     ) -> Result<Option<Found>>
-        requires tries { IsPosition asked.now.request position }
+        requires tries { IsPosition asked.now.request.now position }
         requires room { HasRoomFor self.now
-            (record asked.now.request { start = position }) work.old }
+            (record asked.now.request.now { start = position }) work.old }
         requires known { AreKnown cache.old.known asked.now.haystack.now }
         requires notes { KeepsNotes self.now
-            asked.now.haystack.now asked.now.request position notes.old }
+            asked.now.haystack.now asked.now.request.now position notes.old }
         ensures known { AreKnown cache.new.known asked.now.haystack.now }
         ensures counted { cache.new.work ≡ cache.old.work }
         ensures notes { LeavesNotes self.now asked.now position result notes.new }
         ensures bounded { program_is_easy self.now ≡ true → steps_of work.new
-            ≤ steps_of work.old + notes_to_go self.now asked.now.request position notes.old }
+            ≤ steps_of work.old + notes_to_go self.now asked.now.request.now position notes.old }
         ensures spent { program_is_easy self.now ≡ true → IfOk result (λ m. IfNone m
-            (steps_of work.new + notes_ahead self.now asked.now.request (position + 1) notes.new
-            ≤ steps_of work.old + notes_to_go self.now asked.now.request position notes.old)) }
+            (steps_of work.new + notes_ahead self.now asked.now.request.now (position + 1) notes.new
+            ≤ steps_of work.old + notes_to_go self.now asked.now.request.now position notes.old)) }
         ensures answer { IfOk result
             (λ m. IsAttemptIn m cache.new.engines (query_in self.now asked.now) position) }
         ensures stands { IfFound result (StandsIn self.now asked.now) }
@@ -750,9 +753,9 @@ impl Program {
         work: &mut Work,
     ) -> Result<Option<Found>>
         requires hard { IsHardProgram self.now }
-        requires tries { IsPosition asked.now.request position }
+        requires tries { IsPosition asked.now.request.now position }
         requires room { HasRoomFor self.now
-            (record asked.now.request { start = position }) work.old }
+            (record asked.now.request.now { start = position }) work.old }
         requires known { AreKnown cache.old.known asked.now.haystack.now }
         ensures known { AreKnown cache.new.known asked.now.haystack.now }
         ensures counted { cache.new.work ≡ cache.old.work }
@@ -784,31 +787,31 @@ impl Program {
         cache: &mut Cache,
         work: &mut Work,
     ) -> Result<Option<Found>>
-        requires tries { IsPosition asked.now.request position }
+        requires tries { IsPosition asked.now.request.now position }
         requires easy { program_is_easy self.now ≡ true }
         requires room { HasRoomFor self.now
-            (record asked.now.request { start = position }) work.old }
+            (record asked.now.request.now { start = position }) work.old }
         requires notes { KeepsNotes self.now
-            asked.now.haystack.now asked.now.request position notes.old }
+            asked.now.haystack.now asked.now.request.now position notes.old }
         ensures notes { LeavesNotes self.now asked.now position result notes.new }
         ensures answer { IfOk result
             (λ m. IsAttemptIn m cache.new (query_in self.now asked.now) position) }
         ensures bounded { steps_of work.new
-            ≤ steps_of work.old + notes_to_go self.now asked.now.request position notes.old }
+            ≤ steps_of work.old + notes_to_go self.now asked.now.request.now position notes.old }
         ensures spent { IfOk result (λ m. IfNone m
-            (steps_of work.new + notes_ahead self.now asked.now.request (position + 1) notes.new
-            ≤ steps_of work.old + notes_to_go self.now asked.now.request position notes.old)) }
+            (steps_of work.new + notes_ahead self.now asked.now.request.now (position + 1) notes.new
+            ≤ steps_of work.old + notes_to_go self.now asked.now.request.now position notes.old)) }
         ensures counts { KeepsCounts self.now result work.old work.new }
         ensures units { units_of work.new ≡ units_of work.old }
         ensures refused { IfErr result (RefusesEasy self.now) }
         ensures apart { cache.new.machine ≡ cache.old.machine }
     {
-        let from_position = anchored_at(asked.request, position);
+        let from_position = anchored_at(*asked.request, position);
         let mut table = notes.kept.table();
         cache.served = Engine::Runner;
         cache.runner.swap_notes(&mut notes.notes);
         let runner = &mut cache.runner;
-        let found = self.run(asked.haystack, from_position, &mut table, runner, work);
+        let found = self.run(asked.haystack, &from_position, &mut table, runner, work);
         cache.runner.swap_notes(&mut notes.notes);
         notes.kept = Kept::Runner(table);
         found
@@ -827,12 +830,12 @@ impl Program {
         cache: &mut AttemptCache,
         work: &mut Work,
     ) -> Result<Option<Found>>
-        requires tries { IsPosition asked.now.request position }
+        requires tries { IsPosition asked.now.request.now position }
         requires room { HasRoomFor self.now
-            (record asked.now.request { start = position }) work.old }
+            (record asked.now.request.now { start = position }) work.old }
         requires known { AreKnown cache.old.known asked.now.haystack.now }
         requires notes { KeepsNotes self.now
-            asked.now.haystack.now asked.now.request position notes.old }
+            asked.now.haystack.now asked.now.request.now position notes.old }
         ensures known { AreKnown cache.new.known asked.now.haystack.now }
         ensures counted { cache.new.work ≡ cache.old.work }
         ensures notes { LeavesNotes self.now asked.now position result notes.new }
@@ -845,7 +848,7 @@ impl Program {
         ensures allowed { IfOk result
             (λ _. AllowsAttempt self.now (query_in self.now asked.now) position) }
     {
-        let from_position = anchored_at(asked.request, position);
+        let from_position = anchored_at(*asked.request, position);
         if self.is_followed_at(asked, from_position, &notes.kept)
             && self.allows_all_steps(from_position, work)
         {
@@ -883,17 +886,17 @@ impl Program {
         cache: &mut Cache,
         work: &mut Work,
     ) -> Result<Option<Found>>
-        requires tries { IsPosition asked.now.request position }
+        requires tries { IsPosition asked.now.request.now position }
         requires easy { program_is_easy self.now ≡ true }
         requires plain { ArePlain (instrs_of self.now.code) }
         requires places { KeepsPlaces asked.now.haystack.now self.now.code.meaning
             (search_options self.now.options).on_boundaries }
         requires room { HasRoomFor self.now
-            (record asked.now.request { start = position }) work.old }
+            (record asked.now.request.now { start = position }) work.old }
         requires allowed { AllowsAllSteps self.now
-            (record asked.now.request { start = position; anchored = true }) work.old }
+            (record asked.now.request.now { start = position; anchored = true }) work.old }
         requires notes { KeepsNotes self.now
-            asked.now.haystack.now asked.now.request position notes.old }
+            asked.now.haystack.now asked.now.request.now position notes.old }
         ensures notes { LeavesNotes self.now asked.now position result notes.new }
         ensures answer { IfOk result
             (λ m. IsAttemptIn m cache.new (query_in self.now asked.now) position) }
@@ -901,7 +904,7 @@ impl Program {
         ensures units { units_of work.new ≡ units_of work.old }
         ensures refused { IfErr result (RefusesEasy self.now) }
     {
-        let from_position = anchored_at(asked.request, position);
+        let from_position = anchored_at(*asked.request, position);
         let Ok(mut steps) = notes.take_steps(*self.text.allocator()) else {
             return Err(Error::Memory);
         };
@@ -921,7 +924,7 @@ impl Program {
         position: usize,
         cache: &mut Cache,
     ) -> Option<Option<Found>>
-        requires ends { position ≤ asked.now.request.range_end }
+        requires ends { position ≤ asked.now.request.now.range_end }
         ensures easy { IfSome result (λ _. program_is_easy self.now ≡ true) }
         ensures answer { IfSome result
             (λ m. IsAttemptIn m cache.new (query_in self.now asked.now) position) }
@@ -980,9 +983,9 @@ impl Program {
         notes: &AttemptNotes,
         cache: &mut Cache,
     ) -> Option<Option<Found>>
-        requires tries { IsPosition asked.now.request position }
+        requires tries { IsPosition asked.now.request.now position }
         requires notes { KeepsNotes self.now
-            asked.now.haystack.now asked.now.request position notes.now }
+            asked.now.haystack.now asked.now.request.now position notes.now }
         ensures easy { IfSome result (λ _. program_is_easy self.now ≡ true) }
         ensures answer { IfSome result
             (λ m. IsAttemptIn m cache.new (query_in self.now asked.now) position) }
@@ -991,7 +994,7 @@ impl Program {
             return None;
         }
         let steps = notes.kept_steps()?;
-        let from_position = anchored_at(asked.request, position);
+        let from_position = anchored_at(*asked.request, position);
         let found = self.recall(asked.haystack, from_position, steps)?;
         cache.served = Engine::WithoutGroups(self.code.groups);
         Some(found)
@@ -1039,45 +1042,48 @@ impl Program {
     fn run(
         &self,
         haystack: &[u8],
-        request: Request,
+        request: &Request,
         kept: &mut Option<KeptTable>,
         cache: &mut runner::Cache,
         work: &mut Work,
     ) -> Result<Option<Found>>
-        requires inside { request.range_end ≤ length haystack.now }
+        requires inside { request.now.range_end ≤ length haystack.now }
         requires easy { program_is_easy self.now ≡ true }
-        requires room { HasRoomFor self.now request work.old }
+        requires room { HasRoomFor self.now request.now work.old }
         requires kept { IfSome kept.old (λ k. KeepsTable
-            self.now haystack.now request k (effective_start request) cache.old) }
+            self.now haystack.now request.now k (effective_start request.now) cache.old) }
         ensures answer { IfOk result (λ m. (on : Bool)
             → answer_with (groups_in cache.new) m
-            ≡ search (asked_of self.now haystack.now request on)) }
+            ≡ search (asked_of self.now haystack.now request.now on)) }
         ensures counts { KeepsCounts self.now result work.old work.new }
         ensures idle { (on : Bool) → NoneTried (program_options self.now).seek
-            (asked_of self.now haystack.now request on) → steps_of work.new ≡ steps_of work.old }
+            (asked_of self.now haystack.now request.now on) → steps_of work.new ≡ steps_of work.old }
         ensures refused { IfErr result (RefusesEasy self.now) }
         ensures here { IfFound result (λ f. f.start ≡ f.position) }
-        ensures ordered { IfFound result (λ f. effective_start request ≤ f.end) }
+        ensures ordered { IfFound result (λ f. effective_start request.now ≤ f.end) }
         ensures kept { IfOk result (λ m. IfSome kept.new (λ k. KeepsTable
-            self.now haystack.now request k (place_kept m request) cache.new)) }
+            self.now haystack.now request.now k (place_kept m request.now) cache.new)) }
         ensures left { IfFound result (λ f. kept.new
-            ≡ Some (record { base = table_base kept.old request; from = f.end + 1 })) }
+            ≡ Some (record { base = table_base kept.old request.now; from = f.end + 1 })) }
         ensures dropped { IfErr result (λ _. kept.new ≡ None) }
         ensures bounded { steps_of work.new
-            ≤ steps_of work.old + most_with self.now request kept.old cache.old }
+            ≤ steps_of work.old + most_with self.now request.now kept.old cache.old }
         ensures passed { IfOk result (λ m. IfNone m (steps_of work.new
-            + steps_from kept.new self.now.code request (past_tried request) (table_in cache.new)
-            ≤ steps_of work.old + most_with self.now request kept.old cache.old)) }
+            + steps_from kept.new self.now.code request.now (past_tried request.now) (table_in cache.new)
+            ≤ steps_of work.old + most_with self.now request.now kept.old cache.old)) }
         ensures spent { IfFound result (λ f. steps_of work.new + steps_ahead self.now.code
-            request (table_base kept.old request) f.end (table_in cache.new)
+            request.now (table_base kept.old request.now) f.end (table_in cache.new)
             ≤ steps_of work.old
-            + (ahead_with self.now request kept.old cache.old + program_length self.now)) }
+            + (ahead_with self.now request.now kept.old cache.old + program_length self.now)) }
         ensures units { units_of work.new ≡ units_of work.old }
-        ensures unlimited { kept.old ≡ None → AllowsAllSteps self.now request work.old
+        ensures unlimited { kept.old ≡ None → AllowsAllSteps self.now request.now work.old
             → IsOutOfSteps result → ⊥ }
     {
         let options = self.options.for_search();
-        let wanted = runner::Wanted { request, options };
+        let wanted = runner::Wanted {
+            request: *request,
+            options,
+        };
         match runner::search(&self.code, haystack, wanted, kept, cache, work) {
             Ok(found) => Ok(found),
             Err(refusal) => Err(error_of(refusal)),
@@ -1098,7 +1104,7 @@ impl Program {
         requires of { p ≡ program_pattern self.now }
         requires hard { IsHardProgram self.now }
         requires hopeful { is_hopeless self.now (query_in self.now asked.now) ≡ false }
-        requires room { HasRoomFor self.now asked.now.request work.old }
+        requires room { HasRoomFor self.now asked.now.request.now work.old }
         requires kept { is_kept ≡ true
             → KnowsLastLines asked.now.haystack.now (lines_held cache.old) }
         ensures answer { IfOk result (λ m.
@@ -1117,7 +1123,7 @@ impl Program {
         let wanted = machine::Asked {
             code: &self.code,
             prices: &self.prices,
-            request: asked.request,
+            request: *asked.request,
             options: &self.for_search,
             continues: asked.continues,
         };
@@ -1136,12 +1142,12 @@ impl Program {
         work: &mut Work,
     ) -> Result<Option<Found>>
         ghost p: { Pattern }
-        requires tries { IsPosition asked.now.request position }
+        requires tries { IsPosition asked.now.request.now position }
         requires of { p ≡ program_pattern self.now }
         requires hard { IsHardProgram self.now }
         requires tried { tried_by self.now (query_in self.now asked.now) position ≡ true }
         requires room { HasRoomFor self.now
-            (record asked.now.request { start = position }) work.old }
+            (record asked.now.request.now { start = position }) work.old }
         ensures answer { IfOk result
             (λ m. IsAttemptIn m cache.new (query_in self.now asked.now) position) }
         ensures counts { KeepsCounts self.now result work.old work.new }
@@ -1157,7 +1163,7 @@ impl Program {
         let wanted = machine::Asked {
             code: &self.code,
             prices: &self.prices,
-            request: asked.request,
+            request: *asked.request,
             options: &self.for_search,
             continues: asked.continues,
         };

@@ -22,11 +22,10 @@ impl ReadPast {
         ReadPast { bytes: 0, first }
     }
 
-    /// Adds one more search, which ended at `end` and read up to `reached`, byte offsets. It ended where its match does, or where it
-    /// began if it found none.
+    /// Adds one more search, which read so many bytes past its end: where its match ends, or where it began if it found none.
     #[inline(always)]
-    pub(crate) fn add(&mut self, end: usize, reached: usize) {
-        self.bytes = self.bytes.saturating_add(reached.saturating_sub(end));
+    pub(crate) fn add(&mut self, past: usize) {
+        self.bytes = self.bytes.saturating_add(past);
     }
 
     /// Whether they did not read much more than they came on by, up to a place, a byte offset.

@@ -190,8 +190,18 @@ impl<S: Input> Searcher<S> {
         }
     }
 
+    /// Whether what was found is an empty match that is passed over.
+    fn passes_over(&self, found: Found) -> bool
+        ensures passed { result ≡ true → (self.now.skips_empty ≡ true)
+            × ((found.start ≡ found.end) × (found.end ≡ self.now.request.start)) }
+        ensures stays { result ≡ false → (self.now.skips_empty && (nat_eq found.start found.end
+            && nat_eq found.end self.now.request.start)) ≡ false }
+    {
+        self.skips_empty && found.start == found.end && found.end == self.request.start
+    }
+
     /// The answer of the next search.
-    #[inline(never)]
+    #[inline(always)]
     #[tactic(auto, unfolding(crate::specs::MatchList::answer))]
     fn answer(&mut self, program: &Program, cache: &mut Cache) -> Result<Option<FoundItem>>
         requires suits { IsSuited S.text S.bytes program.now self.old }
@@ -215,7 +225,7 @@ impl<S: Input> Searcher<S> {
         let asked = Asked {
             haystack: self.haystack.as_bytes(),
             text: self.haystack.is_text(),
-            request: self.request,
+            request: &self.request,
             continues: self.continues,
         };
         let mut work = Work::new();
@@ -252,16 +262,15 @@ impl<S: Input> Searcher<S> {
         ensures refused { IfErr result (λ e. RefusesItem S.text S.bytes program.now self.old e) }
         ensures allowed { IfOk result (λ _. AllowsItem S.text S.bytes program.now self.old) }
     {
-        let Some(item) = self.answer(program, cache)? else {
-            return Ok(None);
-        };
-        let start = self.request.start;
-        let found = item.found;
-        if self.skips_empty && found.start == found.end && found.end == start {
-            self.go_past(found.end, false);
-            return self.answer(program, cache);
+        'searches: loop {
+            let Some(item) = self.answer(program, cache)? else {
+                return Ok(None);
+            };
+            if !self.passes_over(item.found) {
+                return Ok(Some(item));
+            }
+            self.go_past(item.found.end, false);
         }
-        Ok(Some(item))
     }
 
     /// Gives the next item and goes on after it. A refusal ends the list.

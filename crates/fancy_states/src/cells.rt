@@ -58,10 +58,10 @@ pub const CELLS: usize = 16_384;
 
 /// So many bytes the rows and the steps may take in any haystack, and in a longer one as many more as it is long, up to
 /// [`MORE_ROOM`].
-pub const ROOM: usize = 524_288;
+const ROOM: usize = 524_288;
 
 /// The most bytes that rows and steps may take more in a longer haystack.
-pub const MORE_ROOM: usize = 2_097_152;
+const MORE_ROOM: usize = 2_097_152;
 
 /// A row takes about so many bytes, with its hints and without its instructions and its entries in the table.
 const ROW_BYTES: usize = 160;
@@ -165,8 +165,8 @@ impl Cells {
         self.held = 0;
     }
 
-    /// Forgets all, so that another code may be searched for.
-    pub fn clear(&mut self)
+    /// Forgets all, so that another code may be searched for, in a haystack of so many bytes.
+    pub fn clear(&mut self, bytes: usize)
         ensures rows { self.new.rows.lists.items ≡ [] }
         ensures cells { self.new.cells.items ≡ [] }
         ensures place { HasPlace self.new }
@@ -175,6 +175,7 @@ impl Cells {
     {
         self.forget();
         self.table.classes = Classes::new(self.alloc);
+        self.room = ROOM.saturating_add(bytes.min(MORE_ROOM));
     }
 
     /// Forgets all where one more step may be one too many.

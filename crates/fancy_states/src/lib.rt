@@ -2,8 +2,8 @@
 //!
 //! At a place of the haystack a row of instructions waits, the preferred one first: a state. A step follows each of them to the
 //! instructions that read an item, and leads to the row of those that go on after the item that is there. A step is
-//! computed once for a row and what is seen, the item and both sides of the place. It is remembered in a cell, to which on ASCII
-//! characters a table leads. Of those that no instruction tells apart one stands for all.
+//! computed once for a row and what is seen, the item and both sides of the place. It is remembered in a cell, to which a table
+//! leads. Of the ASCII characters that no instruction tells apart one stands for all.
 //!
 //! Where a match began is told by the trail, the steps that were taken: each way has the number of the way that it comes
 //! from, so it is followed back to the step at which it began.

@@ -130,10 +130,11 @@ impl Trials {
             AllowsAt member.now (asked_by member.now S.bytes input) position) }
     {
         let haystack = input.haystack();
+        let request = input.request();
         let asked = Asked {
             haystack: haystack.as_bytes(),
             text: false,
-            request: input.request(),
+            request: &request,
             continues: true,
         };
         let Some(found) = self.find_at(index, member, &asked, position)? else {
@@ -151,23 +152,23 @@ impl Trials {
         asked: &Asked<'_>,
         position: usize,
     ) -> Result<Option<Found>>
-        requires starts { effective_start asked.now.request ≤ position }
-        requires ends { position ≤ asked.now.request.range_end }
+        requires starts { effective_start asked.now.request.now ≤ position }
+        requires ends { position ≤ asked.now.request.now.range_end }
         requires known { AreKnown self.old.cache.known asked.now.haystack.now }
         requires notes { NotedAt index member.now
-            asked.now.haystack.now asked.now.request position self.old }
+            asked.now.haystack.now asked.now.request.now position self.old }
         ensures known { AreKnown self.new.cache.known asked.now.haystack.now }
         ensures notes { IfOk result (λ m. NotedAt index member.now
-            asked.now.haystack.now asked.now.request (kept_from m position) self.new) }
+            asked.now.haystack.now asked.now.request.now (kept_from m position) self.new) }
         ensures others { OthersStayBut index self.old self.new }
         ensures bounded { easy_in member.now ≡ true → steps_in self.new
             ≤ steps_in self.old
-            + steps_left member.now asked.now.request position (notes_at self.old index) }
+            + steps_left member.now asked.now.request.now position (notes_at self.old index) }
         ensures spent { easy_in member.now ≡ true → IfOk result (λ m. IfNone m
             (steps_in self.new
-            + steps_left member.now asked.now.request (position + 1) (notes_at self.new index)
+            + steps_left member.now asked.now.request.now (position + 1) (notes_at self.new index)
             ≤ steps_in self.old
-            + steps_left member.now asked.now.request position (notes_at self.old index))) }
+            + steps_left member.now asked.now.request.now position (notes_at self.old index))) }
         ensures paired { IsPaired self.old → IsPaired self.new }
         ensures limit { IsWithin (step_limit_in member.now) self.old.cache.work
             → IsWithin (step_limit_in member.now) self.new.cache.work }
@@ -200,14 +201,14 @@ impl Trials {
         asked: &Asked<'_>,
         position: usize,
     ) -> Result<Option<Found>>
-        requires starts { effective_start asked.now.request ≤ position }
-        requires ends { position ≤ asked.now.request.range_end }
+        requires starts { effective_start asked.now.request.now ≤ position }
+        requires ends { position ≤ asked.now.request.now.range_end }
         requires known { AreKnown self.old.cache.known asked.now.haystack.now }
         requires notes { NotedAt index member.now
-            asked.now.haystack.now asked.now.request position self.old }
+            asked.now.haystack.now asked.now.request.now position self.old }
         ensures known { AreKnown self.new.cache.known asked.now.haystack.now }
         ensures notes { IfOk result (λ m. NotedAt index member.now
-            asked.now.haystack.now asked.now.request (kept_from m position) self.new) }
+            asked.now.haystack.now asked.now.request.now (kept_from m position) self.new) }
         ensures others { OthersStayBut index self.old self.new }
         ensures limit { IsWithin (step_limit_in member.now) self.old.cache.work
             → IsWithin (step_limit_in member.now) self.new.cache.work }
@@ -249,11 +250,11 @@ fn told(
     position: usize,
     cache: &mut Cache,
 ) -> Option<Option<Found>>
-    requires starts { effective_start asked.now.request ≤ position }
-    requires ends { position ≤ asked.now.request.range_end }
+    requires starts { effective_start asked.now.request.now ≤ position }
+    requires ends { position ≤ asked.now.request.now.range_end }
     requires notes { (held : AttemptNotes) → notes_held (slice_get notes.now index) ≡ Some held
         → KeepsNotes (program_in member.now)
-        asked.now.haystack.now asked.now.request position held }
+        asked.now.haystack.now asked.now.request.now position held }
     ensures easy { IfSome result (λ _. easy_in member.now ≡ true) }
     ensures found { IfSome result (λ m.
         IsAttemptIn m cache.new (query_in (program_in member.now) asked.now) position) }

@@ -71,7 +71,7 @@ impl RegexSet {
         let asked = Asked {
             haystack: bytes,
             text: haystack.is_text(),
-            request: here,
+            request: &here,
             continues: true,
         };
         let mut longest = None;

@@ -29,7 +29,7 @@ returns-then-not-is_tried-clause-bounded c easy = omega arith
 
 pub returns-then-not-is_tried-clause-spent : goal.returns-then-not-is_tried-clause-spent
 returns-then-not-is_tried-clause-spent c easy =
-    let fewer = fewer_ahead (table_kept c.args.notes.now.kept) c.args.self.now.code c.args.asked.now.request c.args.position (c.args.position + 1) c.args.notes.now.notes.table (omega arith) in
+    let fewer = fewer_ahead (table_kept c.args.notes.now.kept) c.args.self.now.code c.args.asked.now.request.now c.args.position (c.args.position + 1) c.args.notes.now.notes.table (omega arith) in
     omega (arith, fewer)
 
 pub attempt_hard-requires-clause-hard : goal.attempt_hard-requires-clause-hard

@@ -35,9 +35,9 @@ returns-clause-answer c =
 pub returns-clause-notes : goal.returns-clause-notes
 returns-clause-notes c =
     let notes : AttemptNotes = record { kept = c.follow-found.new.kept; notes = c.take_steps.new.self.notes; steps = Some (with_value c.in-Ok.steps c.follow-found.new.steps) } in
-    let kept = λ (place : ℕ). noted_steps c.args.self.now c.args.asked.now.haystack.now c.args.asked.now.request place notes c.follow-found.ensures.left (refl, c.follow-found.ensures.kept) in
+    let kept = λ (place : ℕ). noted_steps c.args.self.now c.args.asked.now.haystack.now c.args.asked.now.request.now place notes c.follow-found.ensures.left (refl, c.follow-found.ensures.kept) in
     record {
-      after = if_ok _ (λ (m : Option Found). KeepsNotes c.args.self.now c.args.asked.now.haystack.now c.args.asked.now.request (kept_from m c.args.position) notes) (λ m _. kept (kept_from m c.args.position)) c.follow-found.result c.follow-found.ensures.answer;
+      after = if_ok _ (λ (m : Option Found). KeepsNotes c.args.self.now c.args.asked.now.haystack.now c.args.asked.now.request.now (kept_from m c.args.position) notes) (λ m _. kept (kept_from m c.args.position)) c.follow-found.result c.follow-found.ensures.answer;
       dropped = if_err _ _ (λ e _. kept c.args.position) c.follow-found.result c.follow-found.ensures.refused;
     }
 

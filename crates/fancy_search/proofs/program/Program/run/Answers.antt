@@ -27,7 +27,7 @@ returns-in-Ok-clause-counts c =
 
 pub returns-in-Ok-clause-idle : goal.returns-in-Ok-clause-idle
 returns-in-Ok-clause-idle c on none =
-    nowhere c.args.self.now c.args.haystack.now c.args.request on _ _ (λ k. omega (arith, c.type_inv.haystack k)) none c.search.ensures.idle
+    nowhere c.args.self.now c.args.haystack.now c.args.request.now on _ _ (λ k. omega (arith, c.type_inv.haystack k)) none c.search.ensures.idle
 
 pub returns-in-Err-clause-counts : goal.returns-in-Err-clause-counts
 returns-in-Err-clause-counts c =
@@ -43,7 +43,7 @@ returns-in-Err-clause-counts c =
 
 pub returns-in-Err-clause-idle : goal.returns-in-Err-clause-idle
 returns-in-Err-clause-idle c on none =
-    nowhere c.args.self.now c.args.haystack.now c.args.request on _ _ (λ k. omega (arith, c.type_inv.haystack k)) none c.search.ensures.idle
+    nowhere c.args.self.now c.args.haystack.now c.args.request.now on _ _ (λ k. omega (arith, c.type_inv.haystack k)) none c.search.ensures.idle
 
 pub returns-in-Err-clause-refused : goal.returns-in-Err-clause-refused
 returns-in-Err-clause-refused c =

@@ -11,7 +11,7 @@ use Rattle.fancy_search.proofs.ResultLemmas.{if_ok, if_err}
 use Rattle.fancy_search.proofs.program.Program.search_easy.Goals as goal
 
 pub run-requires-clause-kept : goal.run-requires-clause-kept
-run-requires-clause-kept c = if_some_at _ (table_kept c.args.kept.now) (λ k. KeepsTable c.args.self.now c.args.asked.now.haystack.now c.args.asked.now.request k (effective_start c.args.asked.now.request) c.args.cache.now.runner) c.table-table.ensures c.requires.kept.0
+run-requires-clause-kept c = if_some_at _ (table_kept c.args.kept.now) (λ k. KeepsTable c.args.self.now c.args.asked.now.haystack.now c.args.asked.now.request.now k (effective_start c.args.asked.now.request.now) c.args.cache.now.runner) c.table-table.ensures c.requires.kept.0
 
 pub follow-requires-clause-plain : goal.follow-requires-clause-plain
 follow-requires-clause-plain c = c.if-is_followed.ensures.plain refl
@@ -49,12 +49,12 @@ returns-in_err-found-clause-served c =
     }
 
 pub returns-clause-kept : goal.returns-clause-kept
-returns-clause-kept c = (found_table c.args.self.now c.args.asked.now.haystack.now (record c.args.cache.now { served = Runner; runner = c.run.new.cache }) c.args.asked.now.request c.run.new.kept c.in_ok-found.found c.in_ok-found.ensures.kept)
+returns-clause-kept c = (found_table c.args.self.now c.args.asked.now.haystack.now (record c.args.cache.now { served = Runner; runner = c.run.new.cache }) c.args.asked.now.request.now c.run.new.kept c.in_ok-found.found c.in_ok-found.ensures.kept)
 
 pub returns-clause-bounded : goal.returns-clause-bounded
 returns-clause-bounded c =
     let bounded = rw c.table-table.ensures at c.run.ensures.bounded in
-    omega (arith, bounded, again_paid (table_kept c.args.kept.now) c.args.self.now.code (effective_start c.args.asked.now.request))
+    omega (arith, bounded, again_paid (table_kept c.args.kept.now) c.args.self.now.code (effective_start c.args.asked.now.request.now))
 
 pub returns-clause-fresh : goal.returns-clause-fresh
 returns-clause-fresh c none =
@@ -63,17 +63,17 @@ returns-clause-fresh c none =
 
 pub returns-clause-spent : goal.returns-clause-spent
 returns-clause-spent c =
-    (found_spent c.args.self.now c.args.asked.now.request c.args.kept.now c.run.new.kept c.in_ok-found.found (rw c.table-table.ensures at c.in_ok-found.ensures.left)
+    (found_spent c.args.self.now c.args.asked.now.request.now c.args.kept.now c.run.new.kept c.in_ok-found.found (rw c.table-table.ensures at c.in_ok-found.ensures.left)
     (record c.args.cache.now { served = Runner; runner = c.run.new.cache }) _ (steps_of c.run.new.work) (rw c.table-table.ensures at c.in_ok-found.ensures.spent))
 
 pub returns-clause-goes_on : goal.returns-clause-goes_on
 returns-clause-goes_on c =
-    (found_goes_on c.args.self.now c.args.asked.now.request c.args.kept.now c.run.new.kept c.in_ok-found.found (rw c.table-table.ensures at c.in_ok-found.ensures.left))
+    (found_goes_on c.args.self.now c.args.asked.now.request.now c.args.kept.now c.run.new.kept c.in_ok-found.found (rw c.table-table.ensures at c.in_ok-found.ensures.left))
 
 pub returns-in_err-found-clause-bounded : goal.returns-in_err-found-clause-bounded
 returns-in_err-found-clause-bounded c =
     let bounded = rw c.table-table.ensures at c.run.ensures.bounded in
-    omega (arith, bounded, again_paid (table_kept c.args.kept.now) c.args.self.now.code (effective_start c.args.asked.now.request))
+    omega (arith, bounded, again_paid (table_kept c.args.kept.now) c.args.self.now.code (effective_start c.args.asked.now.request.now))
 
 pub returns-in_err-found-clause-fresh : goal.returns-in_err-found-clause-fresh
 returns-in_err-found-clause-fresh c none =
@@ -82,4 +82,4 @@ returns-in_err-found-clause-fresh c none =
 
 pub returns-then-allows_all_steps-clause-kept : goal.returns-then-allows_all_steps-clause-kept
 returns-then-allows_all_steps-clause-kept c =
-    if_ok _ _ (λ m _. found_steps c.args.self.now c.args.asked.now.haystack.now (record c.args.cache.now { served = WithoutGroups c.args.self.now.code.groups; steps = c.follow.new.steps }) c.args.asked.now.request c.follow.new.kept m c.follow.ensures.left c.follow.ensures.kept) c.follow.result c.follow.ensures.answer
+    if_ok _ _ (λ m _. found_steps c.args.self.now c.args.asked.now.haystack.now (record c.args.cache.now { served = WithoutGroups c.args.self.now.code.groups; steps = c.follow.new.steps }) c.args.asked.now.request.now c.follow.new.kept m c.follow.ensures.left c.follow.ensures.kept) c.follow.result c.follow.ensures.answer

@@ -71,4 +71,4 @@ backtrack-requires c =
 
 pub returns-clause-kept : goal.returns-clause-kept
 returns-clause-kept c =
-    if_ok _ _ (found_lines c.args.self.now c.args.asked.now.haystack.now (record c.args.cache.now { served = Machine; machine = c.backtrack.new.cache }) c.args.asked.now.request) c.backtrack.result c.backtrack.ensures.kept
+    if_ok _ _ (found_lines c.args.self.now c.args.asked.now.haystack.now (record c.args.cache.now { served = Machine; machine = c.backtrack.new.cache }) c.args.asked.now.request.now) c.backtrack.result c.backtrack.ensures.kept

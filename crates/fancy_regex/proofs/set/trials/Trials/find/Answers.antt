@@ -23,13 +23,13 @@ returns-in-Some-clause-allowed c hard = absurd (true≢false (sym c.in-Some.ensu
 
 pub find_in_list-found-requires-clause-notes : goal.find_in_list-found-requires-clause-notes
 find_in_list-found-requires-clause-notes c =
-    let q = asked_alone c.args.member.now c.args.asked.now.haystack.now c.args.asked.now.request in
+    let q = asked_alone c.args.member.now c.args.asked.now.haystack.now c.args.asked.now.request.now in
     rw c.deref_mut.ensures.value
     (noted_still q c.args.member.now c.args.position c.args.index c.args.self.now c.in_ok-notes.notes.value c.in_ok-notes.ensures.given c.requires.notes)
 
 pub returns-clause-notes : goal.returns-clause-notes
 returns-clause-notes c =
-    if_ok _ _ (λ m. noted_now c.args.member.now c.args.asked.now.haystack.now c.args.asked.now.request (kept_from m c.args.position) c.args.index c.take_notes.new.self.notes.items (with_value c.in_ok-notes.notes c.find_in_list-found.new.notes)
+    if_ok _ _ (λ m. noted_now c.args.member.now c.args.asked.now.haystack.now c.args.asked.now.request.now (kept_from m c.args.position) c.args.index c.take_notes.new.self.notes.items (with_value c.in_ok-notes.notes c.find_in_list-found.new.notes)
     (omega (arith, c.in_ok-notes.ensures.reached, c.take_notes.new.self.notes.ok.0))) c.find_in_list-found.result c.find_in_list-found.ensures.notes
 
 pub returns-clause-others : goal.returns-clause-others

@@ -17,13 +17,13 @@ use Rattle.fancy_regex.proofs.set.trials.Trials.find_at.Goals as goal
 
 pub find_at-found-requires-clause-notes : goal.find_at-found-requires-clause-notes
 find_at-found-requires-clause-notes c =
-    let q = asked_alone c.args.member.now c.args.asked.now.haystack.now c.args.asked.now.request in
+    let q = asked_alone c.args.member.now c.args.asked.now.haystack.now c.args.asked.now.request.now in
     rw c.deref_mut.ensures.value
     (noted_still q c.args.member.now c.args.position c.args.index c.args.self.now c.in_ok-notes.notes.value c.in_ok-notes.ensures.given c.requires.notes)
 
 pub returns-then-is_easy-clause-notes : goal.returns-then-is_easy-clause-notes
 returns-then-is_easy-clause-notes c =
-    if_ok _ _ (λ m. noted_now c.args.member.now c.args.asked.now.haystack.now c.args.asked.now.request (kept_from m c.args.position) c.args.index c.take_notes.new.self.notes.items (with_value c.in_ok-notes.notes c.find_at-found.new.notes)
+    if_ok _ _ (λ m. noted_now c.args.member.now c.args.asked.now.haystack.now c.args.asked.now.request.now (kept_from m c.args.position) c.args.index c.take_notes.new.self.notes.items (with_value c.in_ok-notes.notes c.find_at-found.new.notes)
     (omega (arith, c.in_ok-notes.ensures.reached, c.take_notes.new.self.notes.ok.0))) c.find_at-found.result c.find_at-found.ensures.notes
 
 pub returns-clause-notes : goal.returns-clause-notes
@@ -37,19 +37,19 @@ returns-then-is_easy-clause-others c = stay_but c.args.index c.args.self.now c.t
 
 pub returns-then-is_easy-clause-bounded : goal.returns-then-is_easy-clause-bounded
 returns-then-is_easy-clause-bounded c easy =
-    let stays = left_stays c.args.member.now c.args.asked.now.request c.args.position (notes_at c.args.self.now c.args.index) (Some c.in_ok-notes.notes.value) c.in_ok-notes.ensures.given in
+    let stays = left_stays c.args.member.now c.args.asked.now.request.now c.args.position (notes_at c.args.self.now c.args.index) (Some c.in_ok-notes.notes.value) c.in_ok-notes.ensures.given in
     let bounded = rw c.deref_mut.ensures.value at (c.find_at-found.ensures.bounded easy) in
     omega (arith, stays, bounded, ap (λ w. w.work.steps) c.take_notes.ensures.cache)
 
 pub returns-then-is_easy-clause-spent : goal.returns-then-is_easy-clause-spent
 returns-then-is_easy-clause-spent c easy =
     let within : c.args.index < length c.take_notes.new.self.notes.items = omega (arith, c.in_ok-notes.ensures.reached, c.take_notes.new.self.notes.ok.0) in
-    let stays = left_stays c.args.member.now c.args.asked.now.request c.args.position (notes_at c.args.self.now c.args.index) (Some c.in_ok-notes.notes.value) c.in_ok-notes.ensures.given in
-    let after = ap (λ held. steps_left c.args.member.now c.args.asked.now.request (c.args.position + 1) (notes_held held)) (get_set_same c.take_notes.new.self.notes.items c.args.index (Some (with_value c.in_ok-notes.notes c.find_at-found.new.notes)) within) in
-    let kept = if_ok _ _ (none_kept (λ p. KeepsNotes (program_in c.args.member.now) c.args.asked.now.haystack.now c.args.asked.now.request p c.find_at-found.new.notes) c.args.position) c.find_at-found.result c.find_at-found.ensures.notes in
+    let stays = left_stays c.args.member.now c.args.asked.now.request.now c.args.position (notes_at c.args.self.now c.args.index) (Some c.in_ok-notes.notes.value) c.in_ok-notes.ensures.given in
+    let after = ap (λ held. steps_left c.args.member.now c.args.asked.now.request.now (c.args.position + 1) (notes_held held)) (get_set_same c.take_notes.new.self.notes.items c.args.index (Some (with_value c.in_ok-notes.notes c.find_at-found.new.notes)) within) in
+    let kept = if_ok _ _ (none_kept (λ p. KeepsNotes (program_in c.args.member.now) c.args.asked.now.haystack.now c.args.asked.now.request.now p c.find_at-found.new.notes) c.args.position) c.find_at-found.result c.find_at-found.ensures.notes in
     if_ok_both _ _ _
     (λ m noted spent. none_both _ _ _
-    (λ kept less. omega (arith, stays, after, less, none_again_after (program_in c.args.member.now) c.args.asked.now.haystack.now c.args.asked.now.request c.args.position c.find_at-found.new.notes kept, ap (λ w. w.work.steps) c.take_notes.ensures.cache))
+    (λ kept less. omega (arith, stays, after, less, none_again_after (program_in c.args.member.now) c.args.asked.now.haystack.now c.args.asked.now.request.now c.args.position c.find_at-found.new.notes kept, ap (λ w. w.work.steps) c.take_notes.ensures.cache))
     m noted spent)
     c.find_at-found.result kept (rw c.deref_mut.ensures.value at (c.find_at-found.ensures.spent easy))
 
