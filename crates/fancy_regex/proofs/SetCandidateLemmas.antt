@@ -1,6 +1,7 @@
 -- Members of a set that may not start at a position are passed over, and have no answer there.
-use Rattle.std.proofs.Common.{◌≡◌, ℕ, zero, suc, ◌+◌, ◌<◌, ◌≤◌, ◌/◌, Bool, true, false, List, [], ◌∷◌, Option, Some, None, MatchOption, is_some, length, slice_get, slice_index, slice_index_or, take, inl, inr, refl, sym, ap, subst, ◌∙◌, arith, true≢false}
+use Rattle.std.proofs.Common.{◌≡◌, ℕ, zero, suc, ◌+◌, ◌<◌, ◌≤◌, ◌/◌, Bool, true, false, List, [], ◌∷◌, Option, Some, None, MatchOption, is_some, length, slice_set, slice_get, slice_index, slice_index_or, take, inl, inr, refl, sym, ap, subst, ◌∙◌, arith, true≢false}
 use Rattle.std.proofs.lemmas.Bool.Decides.{leb_tells}
+use Rattle.std.proofs.lemmas.Grind.{common_steps}
 use Rattle.std.proofs.lemmas.Option.{get_or_from_slice_get, slice_get_within}
 use Rattle.std.proofs.Math.Nat.{div-one}
 use Rattle.fancy_meaning.specs.Search.{answer_at}
@@ -11,6 +12,20 @@ use Rattle.fancy_regex.specs.declared.set.candidates.Groups.{Groups}
 use Rattle.fancy_regex.specs.declared.set.candidates.Candidates.{Candidates}
 use Rattle.fancy_regex.specs.Candidates.{has_group, AreOfStarters, HoldAllAt, HoldNoOthers, HoldOnly, IsPassed, TellStarters, by_byte, by_later, IsNextGroup, NoGroupFrom, NoMemberBetween, NoStarterBetween, IsNextStarter}
 use Rattle.fancy_regex.specs.SetMembers.{SetQuery, asked, has_answer_at, NoneBetween, MayStartAt}
+
+-- what holds of the groups of all bytes below one holds with those of that byte too
+pub set_below : (P : ℕ → Groups → Type 0) (groups : List Groups) (n : ℕ) (g d : Groups) → n < length groups → ((b : ℕ) → b < n → P b (slice_index_or groups b d)) → P n g
+    → (b : ℕ) → b < n + 1 → P b (slice_index_or (slice_set groups n g) b d)
+set_below P groups n g d small below here b le =
+    elim (leb_tells n b) [
+      | inl at ↦
+          (let same : n ≡ b = omega (arith, at.1, le) in
+          let put : slice_index_or (slice_set groups n g) n d ≡ g = grind (arith, common_steps, small) in
+          subst (λ (k : ℕ). P k (slice_index_or (slice_set groups n g) k d)) same (subst (P n) (sym put) here))
+      | inr before ↦
+          (let other : slice_index_or (slice_set groups n g) b d ≡ slice_index_or groups b d = grind (arith, common_steps, before.1) in
+          subst (P b) (sym other) (below b before.1))
+    ]
 
 module _ (members : List Regex) (searched : List ℕ) (p : ℕ) where
   joined : (a b c : ℕ) → NoStarterBetween members searched p a b → NoStarterBetween members searched p b c → NoStarterBetween members searched p a c

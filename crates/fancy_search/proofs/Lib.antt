@@ -13,5 +13,6 @@ pub mod SpelledLemmas
 pub mod StartLemmas
 mod HoldLemmas
 mod OneItemLemmas
+mod StraightLemmas
 pub mod TriedAtLemmas
 pub mod KeptTablesLemmas

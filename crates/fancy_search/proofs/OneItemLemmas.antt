@@ -1,9 +1,8 @@
 -- Code of one item: its one outcome is past the item.
-use Rattle.std.proofs.Common.{cond, ◌++◌, ◌&&◌, ◌==◌, ◌≡◌, ℕ, zero, suc, ◌+◌, ◌<◌, ◌≤◌, Bool, true, false, List, [], ◌∷◌, length, Option, Some, None, if◌then◌else◌, nat_le, refl, sym, ap, subst, ◌∙◌, arith, slice_index, slice_get, replicate}
+use Rattle.std.proofs.Common.{cond, ◌++◌, ◌==◌, ◌≡◌, ℕ, zero, suc, ◌+◌, ◌<◌, ◌≤◌, Bool, true, false, List, [], ◌∷◌, length, Option, Some, None, if◌then◌else◌, refl, sym, ap, subst, ◌∙◌, arith, slice_index, slice_get, replicate}
 use Rattle.std.proofs.Math.Logic.{∥∥₁_elim}
 use Rattle.std.proofs.Props.{props}
 use Rattle.std.specs.List.{filter}
-use Rattle.std.specs.Prelude.{option_map}
 use Rattle.std.proofs.lemmas.List.{length-replicate}
 use Rattle.std.proofs.lemmas.Option.{get_or_from_slice_get, same_Some}
 use Rattle.fancy_code.specs.declared.code.Code.{Code}
@@ -16,15 +15,15 @@ use Rattle.fancy_tree.specs.declared.tree.Meaning.TheVariants.{Unicode, Bytes, A
 use Rattle.fancy_tree.specs.Sets.{has}
 use Rattle.fancy_input.specs.Places.{char_at}
 use Rattle.fancy_input.proofs.CharacterLemmas.{char_at-ascii}
-use Rattle.fancy_meaning.specs.Context.{Context, State, Unit_at, moved_to, unit_in, unit_at, one_character, one_byte, past_item, past_byte, option_to}
-use Rattle.fancy_meaning.specs.Events.{Event, mark, return, outcome, stay, move, outcomes_in}
+use Rattle.fancy_meaning.specs.Context.{Context, holds, State, Unit_at, unit_in, unit_at, one_character, one_byte, past_item, past_byte, option_to}
+use Rattle.fancy_meaning.specs.Events.{Event, mark, return, outcome, outcomes_in}
 use Rattle.fancy_meaning.specs.Forward.{EachOutcome}
 use Rattle.fancy_meaning.proofs.AttemptLemmas.{attempt_some}
 use Rattle.fancy_meaning.proofs.BeginLemmas.{moved}
 use Rattle.fancy_meaning.proofs.SearchLemmas.{if_false}
 use Rattle.fancy_code.specs.Instructions.{Instruction, Match, Fail, Character, Member, RawByte, Assert, Split, Open, Close, Enter, Commit, Look, Deny, Test, Back, Recall, Keep, Continue, Taken}
-use Rattle.fancy_code.specs.Run.{Raw, Note, Stop, choice_opened, returned, fetched, Go, before, join, onward, instr_at, act, run, erase}
-use Rattle.fancy_meaning.specs.Search.{Query, Answer, answer_at, attempt, accepted, first_one, longest_one, context_of, initial, trace_at}
+use Rattle.fancy_code.specs.Run.{Raw, Note, Stop, choice_opened, returned, fetched, before, join, instr_at, act, run, erase}
+use Rattle.fancy_meaning.specs.Search.{Query, Answer, answer_at, attempt, accepted, first_one, context_of, initial, trace_at}
 use Rattle.fancy_meaning.specs.Trace.{outcomes}
 use Rattle.fancy_code.proofs.WholeCode.{program_gives}
 use Rattle.fancy_search.specs.declared.asked.Asked.{Asked}
@@ -33,83 +32,9 @@ use Rattle.fancy_search.specs.OneItem.{AreOneItems, EachReadsOne, IsOneItem, Rea
 use Rattle.fancy_search.specs.Starts.{EndsByOne}
 use Rattle.fancy_search.specs.Programs.{program_is_easy, asked_of, query_in}
 use Rattle.fancy_search.proofs.ProgramSizeLemmas.{parts_of_easy}
+use Rattle.fancy_search.specs.Straight.{past_part}
 use Rattle.fancy_search.proofs.SearchedLemmas.{known}
-
-module _ (x : Context) (limit : ℕ) (code : List Instruction) (matching : instr_at code 0 ≡ Match) (s : State) (v : List ℕ) where
-  erased : (known w : List Raw) (es : List Event) → Some known ≡ Some w → erase known ≡ es → erase w ≡ es
-  erased known w es e is = subst (λ (k : List Raw). erase k ≡ es) (same_Some known w e) is
-
-  found_at : (n p : ℕ) (w : List Raw) → before (Note fetched) (run x limit code n 0 (moved_to s p) v) ≡ Some w → erase w ≡ stay (moved_to s p)
-  found_at zero p w e = cc
-  found_at (suc n) p w e = erased (Note fetched ∷ Note fetched ∷ Stop 0 (moved_to s p) v ∷ []) w (stay (moved_to s p)) (at (instr_at code 0) matching e) refl where
-    at : (i : Instruction) → i ≡ Match → before (Note fetched) (before (Note fetched) (act x limit 0 i (run x limit code n) (run x (length x.haystack) code n) (moved_to s p) v)) ≡ Some w
-        → Some (Note fetched ∷ Note fetched ∷ Stop 0 (moved_to s p) v ∷ []) ≡ Some w
-    at i is e = rw is at e
-
-  moved_is : (n : ℕ) (o : Option ℕ) (w : List Raw) → before (Note fetched) (onward limit (run x limit code n) 0 s v o) ≡ Some w → erase w ≡ move limit s o
-  moved_is n None w e = erased (Note fetched ∷ []) w [] e refl
-  moved_is n (Some p) w e = at (nat_le p limit) e where
-    at : (b : Bool) → before (Note fetched) (if b then (run x limit code n 0 (moved_to s p) v) else (Some [])) ≡ Some w → erase w ≡ (if b then stay (moved_to s p) else [])
-    at true e = found_at n p w e
-    at false e = erased (Note fetched ∷ []) w [] e refl
-
-  moved_to_first : (n next : ℕ) (past o : Option ℕ) (w : List Raw) → (next ≡ 0) × (past ≡ o) → before (Note fetched) (onward limit (run x limit code n) next s v o) ≡ Some w → erase w ≡ move limit s past
-  moved_to_first n next past o w one e = moved_is n o w (subst (λ (k : ℕ). before (Note fetched) (onward limit (run x limit code n) k s v o) ≡ Some w) one.0 e) ∙ ap (move limit s) (sym one.1)
-
-  act_is : (i : Instruction) (past : Option ℕ) → ReadsOne x i s.place past → (n at : ℕ) (far : Go) (w : List Raw) → before (Note fetched) (act x limit at i (run x limit code n) far s v) ≡ Some w
-      → erase w ≡ move limit s past
-  act_is Match past never n at far w e = absurd never
-  act_is Fail past never n at far w e = absurd never
-  act_is (Character c next) past one n at far w e = moved_to_first n next past _ w one e
-  act_is (Member edges next) past one n at far w e = moved_to_first n next past _ w one e
-  act_is (RawByte byte next) past one n at far w e = moved_to_first n next past _ w one e
-  act_is (Assert a next) past never n at far w e = absurd never
-  act_is (Split a b) past never n at far w e = absurd never
-  act_is (Open group next) past never n at far w e = absurd never
-  act_is (Close group next) past never n at far w e = absurd never
-  act_is (Enter body) past never n at far w e = absurd never
-  act_is (Commit next) past never n at far w e = absurd never
-  act_is (Look behind body next) past never n at far w e = absurd never
-  act_is (Deny behind body next) past never n at far w e = absurd never
-  act_is (Test body other) past never n at far w e = absurd never
-  act_is (Back k next) past never n at far w e = absurd never
-  act_is (Recall folded number moved still) past never n at far w e = absurd never
-  act_is (Keep next) past never n at far w e = absurd never
-  act_is (Continue next) past never n at far w e = absurd never
-  act_is (Taken number next) past never n at far w e = absurd never
-
-  run_is : (at : ℕ) (past : Option ℕ) → ReadsOne x (instr_at code at) s.place past → (n : ℕ) (w : List Raw) → run x limit code n at s v ≡ Some w → erase w ≡ move limit s past
-  run_is at past one zero w e = cc
-  run_is at past one (suc n) w e = act_is (instr_at code at) past one n at (run x (length x.haystack) code n) w e
-
-there : ℕ → State → Answer
-there p s = record { position = p; state = s }
-
-answered : (p : ℕ) (s : State) (long taken : Bool) → option_map (there p) (if long then longest_one (cond taken (s ∷ []) []) else first_one (cond taken (s ∷ []) [])) ≡ (if taken then Some (there p s) else None)
-answered p s true true = refl
-answered p s true false = refl
-answered p s false true = refl
-answered p s false false = refl
-
-none_answered : (p : ℕ) (long : Bool) → option_map (there p) (if long then longest_one [] else first_one []) ≡ None
-none_answered p true = refl
-none_answered p false = refl
-
-attempt_is : (q : Query) (p : ℕ) (o : Option ℕ) → trace_at q p ≡ move q.request.range_end (initial q p) o → attempt q p ≡ answer_to q p o
-unfolding answer_at outcomes there
-attempt_is q p None e =
-    ap (λ (es : List Event). option_map (there p) (if q.sought.longest then longest_one (filter (accepted q p) (outcomes_in es)) else first_one (filter (accepted q p) (outcomes_in es)))) e
-    ∙ none_answered p q.sought.longest
-attempt_is q p (Some end) e =
-    ap (λ (es : List Event). option_map (there p) (if q.sought.longest then longest_one (filter (accepted q p) (outcomes_in es)) else first_one (filter (accepted q p) (outcomes_in es)))) e
-    ∙ at (nat_le end q.request.range_end) where
-      s : State
-      s = moved_to (initial q p) end
-
-      at : (b : Bool) → option_map (there p) (if q.sought.longest then longest_one (filter (accepted q p) (outcomes_in (if b then stay s else []))) else first_one (filter (accepted q p) (outcomes_in (if b then stay s else []))))
-          ≡ (if b && accepted q p s then Some (there p s) else None)
-      at true = answered p s q.sought.longest (accepted q p s)
-      at false = none_answered p q.sought.longest
+use Rattle.fancy_search.proofs.StraightLemmas.{attempt_is, run_one}
 
 one_item_found : (q : Query) (code : Code) → IsCodeOf q.sought.pattern code → q.sought.meaning ≡ code.meaning → q.request.range_end ≤ length q.haystack
     → (p : ℕ) (past : Option ℕ) → ReadsOne (context_of q) (instr_at (instrs_of code) code.start) p past → p ≤ q.request.range_end → attempt q p ≡ answer_to q p past
@@ -117,24 +42,15 @@ one_item_found q code is meant inside p past one within =
     let v = replicate code.groups 0 in
     let g = program_gives (context_of q) q.request.range_end q.sought.pattern code is meant inside (initial q p) v within (length-replicate code.groups 0) in
     attempt_is q p past
-    (sym g.2 ∙ run_is (context_of q) q.request.range_end (instrs_of code) (get_or_from_slice_get (instrs_of code) 0 Match Fail is.matching) (initial q p) v code.start past one (depth (length q.haystack) q.sought.pattern + 1) g.0 g.1)
+    (sym g.2 ∙ run_one (context_of q) q.request.range_end (instrs_of code) (get_or_from_slice_get (instrs_of code) 0 Match Fail is.matching) (initial q p) v code.start past within one (depth (length q.haystack) q.sought.pattern + 1) g.0 g.1)
 
 -- what an attempt with a program of one item answers
 pub one_item_at : (r : Program) (asked : Asked) (p : ℕ) (past : Option ℕ) → p ≤ asked.request.now.range_end
     → ((x : Context) → x.meaning ≡ r.code.meaning → x.haystack ≡ asked.haystack.now → ReadsOne x (instr_at (instrs_of r.code) r.code.start) p past)
     → attempt (query_in r asked) p ≡ answer_to (query_in r asked) p past
-one_item_at r asked p past within reads =
+one_item_at r asked p past within read =
     known _ _ r.compiled
-    (λ compiled. one_item_found (query_in r asked) r.code compiled.coded (sym r.meant) asked.inside p past (reads (context_of (query_in r asked)) (sym r.meant) refl) within)
-
--- what is read does not hang on the rest of the context
-pub same_item : (x y : Context) (test : ℕ → Bool) (p : ℕ) → x.meaning ≡ y.meaning → x.haystack ≡ y.haystack → past_item x test p ≡ past_item y test p
-unfolding past_item unit_at
-same_item x y test p meaning haystack = rw (meaning, haystack) refl
-
-pub same_byte : (x y : Context) (byte p : ℕ) → x.haystack ≡ y.haystack → past_byte x byte p ≡ past_byte y byte p
-unfolding past_byte
-same_byte x y byte p haystack = rw haystack refl
+    (λ compiled. one_item_found (query_in r asked) r.code compiled.coded (sym r.meant) asked.inside p past (read (context_of (query_in r asked)) (sym r.meant) refl) within)
 
 -- where an ASCII byte stands, what was read ends past it
 same_width : (u w : Unit_at) → Some u ≡ Some w → u.width ≡ w.width
@@ -180,32 +96,31 @@ byte_by x byte p end e = at (slice_get x.haystack p) e where
   at None e = cc
   at (Some b) e = if_it (b == byte) e
 
--- an item that is read, and where that ends
-record ItemRead (x : Context) (i : Instruction) (p : ℕ) : Type 0 where
-  past : Option ℕ
-  reads : ReadsOne x i p past
-  ends : (end : ℕ) → past ≡ Some end → p < length x.haystack → slice_index x.haystack p < 128 → end ≤ p + 1
+near_test : (p end : ℕ) (b : Bool) → (if b then Some p else None) ≡ Some end → end ≤ p + 1
+near_test p end true e = let same : p ≡ end = same_Some p end e in omega (arith, same)
+near_test p end false e = cc
 
-item_read : (x : Context) (i : Instruction) (p : ℕ) → IsOneItem i → ItemRead x i p
-item_read x (Character c next) p first = record { past = past_item x (λ d. d == c) p; reads = (first, refl); ends = λ end e inside low. item_by x (λ d. d == c) p end inside low e }
-item_read x (Member edges next) p first = record { past = past_item x (has edges) p; reads = (first, refl); ends = λ end e inside low. item_by x (has edges) p end inside low e }
-item_read x (RawByte byte next) p first = record { past = past_byte x byte p; reads = (first, refl); ends = λ end e inside low. byte_by x byte p end e }
-item_read x Match p never = absurd never
-item_read x Fail p never = absurd never
-item_read x (Assert a next) p never = absurd never
-item_read x (Split a b) p never = absurd never
-item_read x (Open group next) p never = absurd never
-item_read x (Close group next) p never = absurd never
-item_read x (Enter body) p never = absurd never
-item_read x (Commit next) p never = absurd never
-item_read x (Look behind body next) p never = absurd never
-item_read x (Deny behind body next) p never = absurd never
-item_read x (Test body other) p never = absurd never
-item_read x (Back k next) p never = absurd never
-item_read x (Recall folded number moved still) p never = absurd never
-item_read x (Keep next) p never = absurd never
-item_read x (Continue next) p never = absurd never
-item_read x (Taken number next) p never = absurd never
+-- an item that is read there ends past it too
+near_read : (x : Context) (i : Instruction) (p end : ℕ) → p < length x.haystack → slice_index x.haystack p < 128 → past_part x i p ≡ Some end → end ≤ p + 1
+near_read x Match p end inside low e = cc
+near_read x Fail p end inside low e = cc
+near_read x (Character c next) p end inside low e = item_by x (λ d. d == c) p end inside low e
+near_read x (Member edges next) p end inside low e = item_by x (has edges) p end inside low e
+near_read x (RawByte byte next) p end inside low e = byte_by x byte p end e
+near_read x (Assert a next) p end inside low e = near_test p end (holds x a p) e
+near_read x (Split a b) p end inside low e = cc
+near_read x (Open group next) p end inside low e = cc
+near_read x (Close group next) p end inside low e = cc
+near_read x (Enter body) p end inside low e = cc
+near_read x (Commit next) p end inside low e = cc
+near_read x (Look behind body next) p end inside low e = cc
+near_read x (Deny behind body next) p end inside low e = cc
+near_read x (Test body other) p end inside low e = cc
+near_read x (Back n next) p end inside low e = cc
+near_read x (Recall folded number moved still) p end inside low e = cc
+near_read x (Keep next) p end inside low e = cc
+near_read x (Continue next) p end inside low e = cc
+near_read x (Taken number next) p end inside low e = cc
 
 -- what holds of each outcome before and after holds of each
 each-append : (P : State → Type 0) (a b : List Raw) → EachOutcome P (erase a) → EachOutcome P (erase b) → EachOutcome P (erase (a ++ b))
@@ -217,14 +132,14 @@ each-append P (Stop q s v ∷ a) b before after = (before.0, each-append P a b b
 
 -- where an ASCII byte stands, each outcome of ways that read one item each ends past that byte or before
 module _ (x : Context) (limit : ℕ) (code : List Instruction) (matching : instr_at code 0 ≡ Match) (s : State) (v : List ℕ)
-    (inside : s.place < length x.haystack) (low : slice_index x.haystack s.place < 128) where
+    (within : s.place ≤ limit) (inside : s.place < length x.haystack) (low : slice_index x.haystack s.place < 128) where
   abbrev IsNear : State → Type 0
   IsNear t = t.place ≤ s.place + 1
 
   one_near : (at n : ℕ) → IsOneItem (instr_at code at) → (w : List Raw) → run x limit code n at s v ≡ Some w → EachOutcome IsNear (erase w)
   one_near at n one w e =
-      let read = item_read x (instr_at code at) s.place one in
-      subst (EachOutcome IsNear) (sym (run_is x limit code matching s v at read.past read.reads n w e)) (moved IsNear limit s read.past (λ end is. read.ends end is inside low))
+      let past = past_part x (instr_at code at) s.place in
+      subst (EachOutcome IsNear) (sym (run_one x limit code matching s v at past within (one, refl) n w e)) (moved IsNear limit s past (λ end is. near_read x (instr_at code at) s.place end inside low is))
 
   are_near : (k at n : ℕ) → EachReadsOne code k at → (w : List Raw) → run x limit code n at s v ≡ Some w → EachOutcome IsNear (erase w)
   are_near zero at n one w e = one_near at n one w e
@@ -266,7 +181,7 @@ ends_by_one s easy ones = record {
       ∥∥₁_elim s.compiled (hlevel props)
       (λ compiled.
       (let g = program_gives (context_of q) q.request.range_end q.sought.pattern s.code compiled.coded (sym s.meant) inside (initial q p) v (omega (arith, within)) (length-replicate s.code.groups 0) in
-      let near = are_near (context_of q) q.request.range_end (instrs_of s.code) (get_or_from_slice_get (instrs_of s.code) 0 Match Fail compiled.coded.matching) (initial q p) v (omega (arith, within, inside)) low
+      let near = are_near (context_of q) q.request.range_end (instrs_of s.code) (get_or_from_slice_get (instrs_of s.code) 0 Match Fail compiled.coded.matching) (initial q p) v (omega (arith, within)) (omega (arith, within, inside)) low
       ones.0 s.code.start (depth (length q.haystack) q.sought.pattern + 1) ones.1 g.0 g.1 in
       attempt_holds q p (λ t. t.place ≤ p + 1) a (parts_of_easy _ _ _ easy).2 (subst (EachOutcome (λ t. t.place ≤ p + 1)) g.2 near) found)));
 }

@@ -18,4 +18,5 @@ pub mod FoundItems
 pub mod ByteSets
 pub mod Starts
 pub mod OneItem
+pub mod Straight
 pub mod KeptTables

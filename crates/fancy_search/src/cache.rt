@@ -27,8 +27,8 @@ pub enum Engine {
     Runner,
     /// The backtracking machine, which serves the others.
     Machine,
-    /// The automaton, or the reading of one item, which serve easy patterns whose code has no group. A pattern may have groups still, so
-    /// many with the whole match, none of which takes part in a match.
+    /// The automaton, or the reading of straight code, which serve easy patterns whose code has no group. A pattern may have groups
+    /// still, so many with the whole match, none of which takes part in a match.
     WithoutGroups(usize),
 }
 

@@ -1,5 +1,6 @@
 //! For which patterns the automaton is worth its steps.
 
+use crate::one_item::reads_one;
 use fancy_code::code::{Code, Instr};
 use fancy_prefilter::branches::WIDE;
 use fancy_prefilter::prefilter::Prefilter;
@@ -87,10 +88,15 @@ fn is_told_little(code: &Code) -> bool {
     !prefilter.scans_for_opening() && (starts_differ(prefilter) || has_wide_loop(code))
 }
 
+/// Whether the code reads one item, and then matches. A test of the place alone may hold before any byte.
+fn is_item(code: &Code) -> bool {
+    code.prefilter.starts.is_some() && reads_one(code, code.start)
+}
+
 /// Whether searches with the code are worth the automaton's steps. Where the first bytes of the alternatives tell them apart, the
-/// runner tries those alone that may match, which takes less.
+/// runner tries those alone that may match, which takes less. One item is read where it may stand.
 pub(crate) fn is_worth_following(code: &Code) -> bool {
-    if code.prefilter.has_words() {
+    if code.prefilter.has_words() || is_item(code) {
         return false;
     }
     is_told_little(code) || opens_wide(code)

@@ -11,3 +11,4 @@ pub mod options;
 pub mod program;
 mod read_past;
 pub mod searcher;
+mod straight;

@@ -6,6 +6,7 @@ ghost use Rattle.fancy_meaning.specs.Context.{Context};
 ghost use Rattle.fancy_code.specs.Run.{instr_at};
 ghost use Rattle.fancy_search.specs.OneItem.{AreOneItems, IsOneItem, ReadsOne};
 
+use crate::straight::after_part;
 use fancy_code::code::{Code, Instr, MATCH};
 use fancy_code::step::{past_character, past_member, past_raw_byte};
 
@@ -35,18 +36,13 @@ pub(crate) fn past_one_item(code: &Code, haystack: &[u8], place: usize) -> Optio
 /// How many choices are followed.
 const MOST: usize = 16;
 
-/// Whether an instruction reads one item, after which a match is found.
-fn reads_one(code: &Code, at: usize) -> bool
+/// Whether an instruction reads one item, or tests the place, after which a match is found.
+pub(crate) fn reads_one(code: &Code, at: usize) -> bool
     ensures { result ≡ true → IsOneItem (instr_at (instrs_of code.now) at) }
 {
-    if at >= code.len() {
-        return false;
-    }
-    match code.instr(at) {
-        Instr::Character(_, next) => *next == MATCH,
-        Instr::Member(_, next) => *next == MATCH,
-        Instr::RawByte(_, next) => *next == MATCH,
-        _ => false,
+    match after_part(code, at) {
+        None => false,
+        Some(next) => next == MATCH,
     }
 }
 

@@ -1,6 +1,6 @@
 //! A compiled pattern: the code that is searched with, and what decides how.
 
-ghost use Rattle.std.specs.Prelude.{◌≡◌, ◌≤◌, ◌<◌, ◌+◌, ◌*◌, ◌^◌, ℕ, replicate, Bool, List, None, Some, IfOk, IfErr, IfSome, IfNone, IsUtf8, chars, true, false, length, string_bytes};
+ghost use Rattle.std.specs.Prelude.{◌≡◌, ◌≤◌, ◌<◌, ◌+◌, ◌-◌, ◌*◌, ◌^◌, ℕ, replicate, Bool, List, None, Some, IfOk, IfErr, IfSome, IfNone, IsUtf8, chars, true, false, length, string_bytes};
 ghost use Rattle.std.specs.Option.{ForSome};
 ghost use Rattle.fancy_tree.specs.Pattern.{Pattern, pattern_of};
 ghost use Rattle.fancy_tree.specs.GroupNames.{names_of};
@@ -21,6 +21,7 @@ ghost use Rattle.fancy_meaning.specs.Search.{search};
 ghost use Rattle.fancy_code.specs.Queries.{answer_with};
 ghost use Rattle.fancy_states.specs.Futures.{ArePlain};
 ghost use Rattle.fancy_states.specs.Search.{KeepsPlaces};
+ghost use Rattle.fancy_states.specs.Counts.{AddsSteps};
 ghost use Rattle.fancy_bytes.specs.Lacks.{AreKnown, AreRequired};
 ghost use Rattle.fancy_required.specs.Required.{required_text};
 ghost use Rattle.fancy_splits.specs.Told.{ArePrices};
@@ -33,12 +34,14 @@ ghost use Rattle.fancy_search.specs.Refusals.{error_of};
 ghost use Rattle.fancy_search.specs.ProgramSize.{IsRefusedUnder, RefusesPattern, passes};
 ghost use Rattle.fancy_search.specs.Cached.{IsAttemptIn};
 ghost use Rattle.fancy_search.specs.OneItem.{AreOneItems, answer_to};
+ghost use Rattle.fancy_search.specs.Straight.{is_straight};
 
 use crate::asked::Asked;
 use crate::cache::{AttemptCache, AttemptNotes, Cache, Engine, Kept, RememberedSteps};
 use crate::following::{Lengths, is_worth_following, shortest_followed};
 use crate::one_item::{is_one_item, past_one_item};
 use crate::options::Options;
+use crate::straight::{is_straight, past_straight};
 use fancy_automaton::search as automaton;
 use fancy_bytes::lacking::{KnownBytes, RequiredBytes};
 use fancy_code::code::Code;
@@ -50,6 +53,7 @@ use fancy_input::refusal::SearchRefusal;
 use fancy_input::work::Work;
 use fancy_machine::search as machine;
 use fancy_meaning::options::{SearchOptions, is_match_boundary};
+use fancy_prefilter::candidates::next_opening;
 use fancy_required::text::RequiredText;
 use fancy_runner::notes::KeptTable;
 use fancy_runner::search as runner;
@@ -68,7 +72,7 @@ const SHORT_HAYSTACK: usize = 256;
 ///
 /// Which engine serves its searches is decided once: the memoised runner an easy pattern, and the backtracking machine a
 /// hard one. An easy pattern whose code an automaton follows, and of whose matches little is told that a scan could go by, is served
-/// by that in a text that is not short.
+/// by that in a text that is not short. One whose code is straight needs no engine: its items are read where a match may begin.
 pub struct Program {
     options: Options,
     /// What an engine is told of them.
@@ -79,6 +83,8 @@ pub struct Program {
     easy: bool,
     /// Whether each way of the code reads one item, after which a match is found, as far as this is told.
     one_item: bool,
+    /// Whether the code reads items and tests places one after another, and then matches.
+    straight: bool,
     /// Whether the automaton follows the code.
     plain: bool,
     /// Whether searches are worth its steps, in texts that are not short.
@@ -99,6 +105,8 @@ pub struct Program {
     ghost decided: { easy ≡ is_easy_under options reading.0 },
     ghost followed: { plain ≡ true → FollowsEach code },
     ghost single: { one_item ≡ true → ∥ AreOneItems (instrs_of code) code.start ∥₁ },
+    ghost direct: { straight ≡ true
+        → is_straight code.start (code_len code - 1) (instrs_of code) ≡ true },
     ghost light: { is_easy reading.0 ≡ true → are_easy (instrs_of code) ≡ true },
     pub ghost limited: { ForSome options.step_limit (λ most. most < 2 ^ 64) },
     ghost starts: { has_keep_start_in_look_around reading.0 ≡ false },
@@ -119,6 +127,7 @@ impl Drop for Program {
             names: _,
             easy: _,
             one_item: _,
+            straight: _,
             plain: _,
             worth_following: _,
             shortest: _,
@@ -220,6 +229,7 @@ impl Program {
             return Err(Error::CompileError(CompileError::PatternTooComplex));
         }
         let one_item = is_one_item(&code);
+        let straight = is_straight(&code);
         let plain = is_plain(&code);
         let worth_following = is_worth_following(&code);
         let shortest = shortest_followed(&code);
@@ -236,6 +246,7 @@ impl Program {
             names,
             easy,
             one_item,
+            straight,
             plain,
             worth_following,
             shortest,
@@ -376,6 +387,9 @@ impl Program {
         if self.is_followed(asked, &Kept::Nothing) && self.allows_all_steps(*asked.request, work) {
             return self.find_by_steps(asked.haystack, *asked.request, work);
         }
+        if self.straight && self.allows_all_steps(*asked.request, work) {
+            return Ok(self.read(asked.haystack, asked.request, work));
+        }
         let mut table = None;
         let mut runner = runner::Cache::new(*self.text.allocator());
         self.run(asked.haystack, asked.request, &mut table, &mut runner, work)
@@ -470,7 +484,8 @@ impl Program {
         self.backtrack(&asked, is_kept, &mut cache.machine, work)
     }
 
-    /// The search for an easy pattern, by the automaton where that is worth its steps, and else by the runner. It has no `\G`.
+    /// The search for an easy pattern: by the automaton where that is worth its steps, else by reading its items where the code is
+    /// straight, and else by the runner. It has no `\G`.
     #[inline(always)]
     fn search_easy(
         &self,
@@ -501,6 +516,11 @@ impl Program {
             cache.served = Engine::WithoutGroups(self.code.groups);
             return self.follow(asked.haystack, *asked.request, kept, &mut cache.steps, work);
         }
+        if self.is_read(kept) && self.allows_all_steps(*asked.request, work) {
+            cache.served = Engine::WithoutGroups(self.code.groups);
+            *kept = Kept::Runner(None);
+            return Ok(self.read(asked.haystack, asked.request, work));
+        }
         cache.served = Engine::Runner;
         let mut table = kept.table();
         *kept = Kept::Nothing;
@@ -508,6 +528,47 @@ impl Program {
         let found = self.run(asked.haystack, asked.request, &mut table, runner, work)?;
         *kept = Kept::Runner(table);
         Ok(found)
+    }
+
+    /// Whether the items of the code are read where a match may begin: it is straight, and no table is kept.
+    #[inline(always)]
+    fn is_read(&self, kept: &Kept) -> bool
+        ensures straight { result ≡ true → self.now.straight ≡ true }
+        ensures none { result ≡ true → table_kept kept.now ≡ None }
+    {
+        self.straight && kept.table().is_none()
+    }
+
+    /// The search for an easy pattern whose code is straight: its items are read, and its tests made, at each place where a match may
+    /// begin. No group takes part.
+    #[inline(never)]
+    fn read(&self, haystack: &[u8], request: &Request, work: &mut Work) -> Option<Found>
+        requires inside { request.now.range_end ≤ length haystack.now }
+        requires easy { program_is_easy self.now ≡ true }
+        requires straight { self.now.straight ≡ true }
+        ensures answer { (on : Bool) → answer_with (replicate (program_groups self.now) None) result
+            ≡ search (asked_of self.now haystack.now request.now on) }
+        ensures counts { AddsSteps (step_bound self.now request.now) work.old work.new }
+        ensures idle { (on : Bool) → NoneTried (program_options self.now).seek
+            (asked_of self.now haystack.now request.now on) → steps_of work.new ≡ steps_of work.old }
+    {
+        let first = request.effective_start();
+        if first > request.range_end {
+            return None;
+        }
+        let (last, end) = (request.last_position(), request.range_end);
+        let prefilter = &self.code.prefilter;
+        let suppressed = self.for_search.suppressed_ends(*request);
+        let mut place = next_opening(prefilter, haystack, end, first, last);
+        'places: while place <= last {
+            let past = past_straight(&self.code, haystack, suppressed, place, work);
+            let found = self.match_to(haystack, end, place, past);
+            if found.is_some() {
+                return found;
+            }
+            place = next_opening(prefilter, haystack, end, place + 1, last);
+        }
+        None
     }
 
     /// Whether a search of a haystack of this form goes from boundary to boundary: text by characters, or bytes one by one.
@@ -934,7 +995,7 @@ impl Program {
         }
         let past = past_one_item(&self.code, asked.haystack, position)?;
         cache.served = Engine::WithoutGroups(self.code.groups);
-        Some(self.match_to(asked, position, past))
+        Some(self.match_to(asked.haystack, asked.request.range_end, position, past))
     }
 
     /// Whether the automaton follows the code in what is asked, and no limit of steps is to be heeded.
@@ -1000,18 +1061,26 @@ impl Program {
         Some(found)
     }
 
-    /// The match of an easy pattern from a position up to a place, if there is one, and such a match is accepted.
+    /// The match of an easy pattern from a position up to a place, if there is one, and such a match is accepted. It ends at `range_end`
+    /// or before.
     #[inline]
-    fn match_to(&self, asked: &Asked<'_>, position: usize, past: Option<usize>) -> Option<Found>
+    fn match_to(
+        &self,
+        haystack: &[u8],
+        range_end: usize,
+        position: usize,
+        past: Option<usize>,
+    ) -> Option<Found>
         requires easy { program_is_easy self.now ≡ true }
-        ensures { answer_with (replicate (program_groups self.now) None) result
-            ≡ answer_to (query_in self.now asked.now) position past }
+        ensures { (request : Request) (on : Bool) → request.range_end ≡ range_end
+            → answer_with (replicate (program_groups self.now) None) result
+            ≡ answer_to (asked_of self.now haystack.now request on) position past }
     {
         let end = past?;
         let on_boundaries = self.options.bytes_mode.keeps_characters();
-        let begins = is_match_boundary(on_boundaries, asked.haystack, position);
-        let ends = is_match_boundary(on_boundaries, asked.haystack, end);
-        if end <= asked.request.range_end && begins && ends {
+        let begins = is_match_boundary(on_boundaries, haystack, position);
+        let ends = is_match_boundary(on_boundaries, haystack, end);
+        if end <= range_end && begins && ends {
             return Some(Found {
                 position,
                 start: position,

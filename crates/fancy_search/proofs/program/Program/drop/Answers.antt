@@ -9,6 +9,7 @@ invariant_of-self c = record {
   short = c.args.self.short;
   decided = c.args.self.decided;
   single = c.args.self.single;
+  direct = c.args.self.direct;
   followed = c.args.self.followed;
   light = c.args.self.light;
   limited = c.args.self.limited;

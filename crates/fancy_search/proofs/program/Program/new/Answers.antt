@@ -55,6 +55,7 @@ invariant_of-result c = record {
   short = c.in_ok-code.ensures.short;
   decided = c.is_easy-easy.ensures;
   single = λ e. ∣ c.is_one_item-one_item.ensures e ∣₁;
+  direct = c.is_straight-straight.ensures;
   followed = λ e at. plain_is _ (c.is_plain-plain.ensures.0 e at);
   light = c.in_ok-code.ensures.easy;
   limited = search rules;

@@ -8,6 +8,7 @@ use Rattle.fancy_runner.proofs.KeptTableLemmas.{again_paid}
 use Rattle.fancy_input.specs.Work.{steps_of}
 use Rattle.fancy_search.specs.SearchCounts.{RefusesEasy}
 use Rattle.fancy_search.proofs.ResultLemmas.{if_ok, if_err}
+use Rattle.fancy_search.proofs.StraightLemmas.{counts_kept}
 use Rattle.fancy_search.proofs.program.Program.search_easy.Goals as goal
 
 pub run-requires-clause-kept : goal.run-requires-clause-kept
@@ -83,3 +84,12 @@ returns-in_err-found-clause-fresh c none =
 pub returns-then-allows_all_steps-clause-kept : goal.returns-then-allows_all_steps-clause-kept
 returns-then-allows_all_steps-clause-kept c =
     if_ok _ _ (λ m _. found_steps c.args.self.now c.args.asked.now.haystack.now (record c.args.cache.now { served = WithoutGroups c.args.self.now.code.groups; steps = c.follow.new.steps }) c.args.asked.now.request.now c.follow.new.kept m c.follow.ensures.left c.follow.ensures.kept) c.follow.result c.follow.ensures.answer
+
+pub returns-then-allows_all_steps-2-clause-served : goal.returns-then-allows_all_steps-2-clause-served
+returns-then-allows_all_steps-2-clause-served c = record {
+  answer = c.read.ensures.answer c.args.asked.now.continues;
+  counts = counts_kept c.args.self.now c.args.asked.now.request.now c.read.result _ _ c.requires.room (c.if-allows_all_steps-2.ensures refl) c.read.ensures.counts;
+  idle = c.read.ensures.idle c.args.asked.now.continues;
+  refused = tt;
+  apart = refl;
+}
