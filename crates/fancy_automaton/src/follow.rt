@@ -314,17 +314,18 @@ pub(crate) fn lengthen(attempt: &Attempt, cells: &Cells, from: Sole, any: bool) 
     }
 }
 
-/// Takes steps that the table tells, as long as all ways that wait began at one place. Characters past ASCII are read where `any` says so.
-#[inline(always)]
-fn follow_by(attempt: &Attempt, cells: &Cells, from: Sole, any: bool) -> Sole
+/// Takes steps that the table tells on ASCII characters, as long as all ways that wait began at one place. The loops need fewer
+/// registers so than on all characters.
+#[inline(never)]
+pub(crate) fn follow(attempt: &Attempt, cells: &Cells, from: Sole) -> Sole
     requires sole { IsSole attempt.now cells.now from }
     ensures reaches { Reaches attempt.now cells.now from.stand.place result }
 {
     let idle = idle_row(cells);
     let mut at = from;
     'places: while at.end.is_none() {
-        at = seek(attempt, cells, at, idle, any);
-        match past(attempt, cells, at, idle, any) {
+        at = seek(attempt, cells, at, idle, false);
+        match past(attempt, cells, at, idle, false) {
             None => return at,
             Some(next) => at = next,
         }
@@ -332,23 +333,26 @@ fn follow_by(attempt: &Attempt, cells: &Cells, from: Sole, any: bool) -> Sole
     if at.stand.next == idle {
         return at;
     }
-    lengthen(attempt, cells, at, any)
+    lengthen(attempt, cells, at, false)
 }
 
-/// The same on ASCII characters alone, for which the loops need fewer registers.
-#[inline(never)]
-pub(crate) fn follow(attempt: &Attempt, cells: &Cells, from: Sole) -> Sole
-    requires sole { IsSole attempt.now cells.now from }
-    ensures reaches { Reaches attempt.now cells.now from.stand.place result }
-{
-    follow_by(attempt, cells, from, false)
-}
-
-/// The same on any characters.
+/// The same on any characters. One function with a flag for both would be too large to be put in line, and ask it at each step.
 #[inline(never)]
 pub(crate) fn follow_any(attempt: &Attempt, cells: &Cells, from: Sole) -> Sole
     requires sole { IsSole attempt.now cells.now from }
     ensures reaches { Reaches attempt.now cells.now from.stand.place result }
 {
-    follow_by(attempt, cells, from, true)
+    let idle = idle_row(cells);
+    let mut at = from;
+    'places: while at.end.is_none() {
+        at = seek(attempt, cells, at, idle, true);
+        match past(attempt, cells, at, idle, true) {
+            None => return at,
+            Some(next) => at = next,
+        }
+    }
+    if at.stand.next == idle {
+        return at;
+    }
+    lengthen(attempt, cells, at, true)
 }

@@ -1,6 +1,6 @@
 use Rattle.std.proofs.Common.{◌-◌, ◌≤◌}
 use Rattle.fancy_automaton.specs.Sole.{IsSole}
-use Rattle.fancy_automaton.proofs.follow.follow_by.Given as goal
+use Rattle.fancy_automaton.proofs.follow.follow_any.Given as goal
 
 abbrev pub invariant-places : goal.invariant-places
 invariant-places l = record {

@@ -1,6 +1,6 @@
 use Rattle.std.proofs.Common.{◌∙◌, ap, arith, not}
 use Rattle.fancy_automaton.proofs.WalkLemmas.{decided_sole, found_goal, sole_decided, sole_holds, sole_opens}
-use Rattle.fancy_automaton.proofs.follow.follow_by.Goals as goal
+use Rattle.fancy_automaton.proofs.follow.follow_any.Goals as goal
 
 pub returns : goal.returns
 returns c =
