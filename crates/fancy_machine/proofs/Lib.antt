@@ -6,6 +6,7 @@ pub mod LogLemmas
 pub mod LayerLemmas
 pub mod WriteLemmas
 pub mod RegionLemmas
+pub mod RoomLemmas
 pub mod TrailStops
 pub mod ContinuesLemmas
 pub mod MachineSearch

@@ -117,10 +117,7 @@ fn save_ways(trail: &mut Trail, saved: SavedWays) -> Result<(), SearchRefusal>
     match saved {
         SavedWays::Nothing => Ok(()),
         SavedWays::One(way) => trail.save(Kind::Branch, way),
-        SavedWays::Two(outer, inner) => {
-            trail.save(Kind::Branch, outer)?;
-            trail.save(Kind::Branch, inner)
-        }
+        SavedWays::Two(outer, inner) => trail.save_two(outer, inner),
     }
 }
 

@@ -109,13 +109,13 @@ pub(crate) fn region_by(layer: Layer, count: usize) -> usize
     }
 }
 
-/// Makes room for one more layer.
+/// Makes room for so many more layers.
 #[inline(never)]
-fn make_room(layers: &mut Vec<Layer>) -> Result<(), AllocError>
+fn make_room(layers: &mut Vec<Layer>, count: usize) -> Result<(), AllocError>
     ensures items { layers.new.items ≡ layers.old.items }
-    ensures room { OnOk result (vec_len layers.new < vec_capacity layers.new) }
+    ensures room { OnOk result (vec_len layers.new + count ≤ vec_capacity layers.new) }
 {
-    layers.reserve(1)
+    layers.reserve(count)
 }
 
 /// Puts a layer on the others. Most often there is room for it.
@@ -126,9 +126,24 @@ pub(crate) fn put_layer(layers: &mut Vec<Layer>, layer: Layer) -> Result<(), All
     ensures len { OnOk result (vec_len layers.new ≡ vec_len layers.old + 1) }
 {
     if layers.len() >= layers.capacity() {
-        make_room(layers)?;
+        make_room(layers, 1)?;
     }
     layers.push_reserved(layer);
+    Ok(())
+}
+
+/// Puts two layers on the others, the lower one first. Most often there is room for them.
+#[inline(always)]
+pub(crate) fn put_two(layers: &mut Vec<Layer>, lower: Layer, upper: Layer) -> Result<(), AllocError>
+    ensures items { OnOk result
+        (layers.new.items ≡ (layers.old.items ++ lower ∷ []) ++ upper ∷ []) }
+    ensures refused { OnErr result (layers.new.items ≡ layers.old.items) }
+{
+    if layers.capacity() - layers.len() < 2 {
+        make_room(layers, 2)?;
+    }
+    layers.push_reserved(lower);
+    layers.push_reserved(upper);
     Ok(())
 }
 

@@ -8,13 +8,15 @@ ghost use Rattle.fancy_machine.specs.Log.{cell_slot, writes_allowed};
 ghost use Rattle.fancy_machine.specs.Frames.{Frame, Region, saved};
 ghost use Rattle.fancy_machine.specs.Layers.{spot_of, outcome_of, frame_by, saves};
 ghost use Rattle.fancy_machine.specs.Attempt.{DieFirst};
+ghost use Rattle.fancy_machine.specs.Choices.{saved_ways};
 ghost use Rattle.fancy_machine.specs.Machine.{at_instr, at_place, written, opened_at, closed_at, kept_at, within_at, saved_run, IsBare, IsEndedByAny, HasInnermost, Stops, TookBranch};
 ghost use Rattle.fancy_machine.specs.Moves.{GoesOn, GoesOnIfOk, LaysFrames, SavesBranches};
 ghost use Rattle.fancy_machine.specs.Runs.{past_items};
 
 use crate::attempt::Attempt;
 use crate::layer::{
-    Kind, Layer, cut, earlier, is_ended, is_ended_by_any, is_saved, put_layer, region_by, take_last,
+    Kind, Layer, cut, earlier, is_ended, is_ended_by_any, is_saved, put_layer, put_two, region_by,
+    take_last,
 };
 use crate::log::{Cell, Write, begin_cells, cell_at, forget_levels, thin, undo};
 use crate::runs::places_dead;
@@ -283,6 +285,33 @@ impl Trail {
         put_layer(&mut self.layers, layer)?;
         self.branches += 1;
         self.region = region_by(layer, self.layers.len());
+        Ok(())
+    }
+
+    /// Two more layers, each of them a saved branch: that at `inner` is taken first. Both are refused with `Choices` where the second
+    /// may not be saved.
+    #[inline(always)]
+    pub(crate) fn save_two(&mut self, outer: usize, inner: usize) -> Result<(), SearchRefusal>
+        ensures { SavesBranches result 2
+            (saved_ways (outer ∷ inner ∷ []) self.old.now self.old.frames) self.old self.new }
+    {
+        if !self.has_room_for(2) {
+            return Err(SearchRefusal::Choices);
+        }
+        let lower = Layer {
+            kind: Kind::Branch,
+            by: self.at,
+            at: outer,
+            from: self.place,
+            place: self.place,
+            kept: self.kept,
+            limit: self.limit,
+            log: self.log.len(),
+            region: self.region,
+        };
+        let upper = Layer { at: inner, ..lower };
+        put_two(&mut self.layers, lower, upper)?;
+        self.branches += 2;
         Ok(())
     }
 

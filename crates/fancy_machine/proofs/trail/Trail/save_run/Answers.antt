@@ -1,18 +1,15 @@
-use Rattle.std.proofs.Common.{◌≡◌, ◌≤◌, ◌+◌, ◌-◌, ◌∙◌, ℕ, ap, arith, map, refl, rules, subst, sym}
+use Rattle.std.proofs.Common.{◌≡◌, ◌+◌, ◌-◌, ◌∙◌, ap, arith, map, refl, rules, sym}
 use Rattle.fancy_machine.specs.declared.layer.Layer.{Layer}
 use Rattle.fancy_machine.specs.declared.layer.Kind.TheVariants as k
 use Rattle.fancy_machine.specs.Log.{cell_slot}
-use Rattle.fancy_machine.specs.Frames.{Held, saved}
+use Rattle.fancy_machine.specs.Frames.{Held}
 use Rattle.fancy_machine.specs.Layers.{earlier, spot_of, frames_of}
 use Rattle.fancy_machine.specs.Machine.{saved_run}
 use Rattle.fancy_machine.proofs.LayerLemmas.{counted_snoc, frames_made, run_frames, saved_frames}
 use Rattle.fancy_machine.proofs.RegionLemmas.{pushed}
+use Rattle.fancy_machine.proofs.RoomLemmas.{room}
 use Rattle.fancy_machine.proofs.WriteLemmas.{saved_log}
 use Rattle.fancy_machine.proofs.trail.Trail.save_run.Goals as goal
-
--- what there is room for
-room : (h held : Held) (n branches : ℕ) → h ≡ held → saved h.frames ≡ branches → saved held.frames + n ≤ held.most → branches + n ≤ h.most
-room h held n branches is count le = omega (arith, subst (λ (g : Held). saved g.frames + n ≤ g.most) (sym is) le, count)
 
 pub overflow_add-self : goal.overflow_add-self
 overflow_add-self c =
