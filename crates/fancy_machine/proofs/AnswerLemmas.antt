@@ -1,5 +1,5 @@
 -- What a search answers and counts, from its parts.
-use Rattle.std.proofs.Common.{◌≡◌, ◌+◌, ◌<◌, ◌≤◌, ℕ, Option, Result, Ok, Err, arith, ap, ◌∙◌}
+use Rattle.std.proofs.Common.{◌≡◌, ◌+◌, ◌<◌, ◌≤◌, ℕ, Bool, Option, Result, Ok, Err, arith, ap, refl, ◌∙◌}
 use Rattle.std.specs.Prelude.{IsErrAnd}
 use Rattle.fancy_input.specs.declared.refusal.SearchRefusal.{SearchRefusal}
 use Rattle.fancy_input.specs.declared.refusal.SearchRefusal.TheVariants.{Returns, Choices, Steps}
@@ -10,7 +10,7 @@ use Rattle.fancy_meaning.specs.declared.options.SearchOptions.{SearchOptions}
 use Rattle.fancy_code.specs.Queries.{answer_with}
 use Rattle.fancy_meaning.specs.Search.{Answer}
 use Rattle.fancy_machine.specs.declared.search.Cache.{Cache}
-use Rattle.fancy_machine.specs.Asked.{Answers, HeedsLimit, groups_held}
+use Rattle.fancy_machine.specs.Asked.{Answers, HeedsLimit, found_by, found_if, groups_held}
 use Rattle.fancy_machine.specs.Parts.{HeedsLimits, KeepsCounts}
 use Rattle.fancy_machine.proofs.RefusalLemmas.{passed_on}
 
@@ -84,4 +84,23 @@ answers_err (Err x) e h bounded refused crowded heeds counts limits = record {
   heeds = heeds;
   counts = counts;
   limits = limits;
+}
+
+-- it says whether something was found, or was refused
+pub answers_by : {options : SearchOptions} {limit : ℕ} {found : Option Answer} {returns choices : ℕ} {old new : Cache} {before after : Work} (p : ℕ) (r : Result Bool SearchRefusal)
+    → ((b : Bool) → r ≡ Ok b → (answer_with (groups_held new) (found_if p new b) ≡ found) × (returns_of after ≡ returns_of before + returns))
+    → returns_of after ≤ returns_of before + returns → (r ≡ Err Returns → limit < returns_of before + returns) → (r ≡ Err Choices → options.stack_limit < choices)
+    → HeedsLimit options.stack_limit old new → KeepsCounts before after → HeedsLimits limit options.step_limit r before after
+    → Answers options limit found returns choices (found_by p new r) old new before after
+answers_by p (Ok b) ok bounded refused crowded heeds counts l =
+    answers_ok (ok b refl).0 (ok b refl).1 heeds counts (record { stopped = λ e. absurd (cc); fits = l.fits; within = l.within; limited = λ e. absurd (cc) })
+answers_by p (Err x) ok bounded refused crowded heeds counts l = record {
+  answer = tt;
+  count = tt;
+  bounded = bounded;
+  refused = λ is. refused (cc);
+  crowded = λ is. crowded (cc);
+  heeds = heeds;
+  counts = counts;
+  limits = record { stopped = λ is. l.stopped (cc); fits = l.fits; within = l.within; limited = λ is. l.limited (cc) };
 }

@@ -1,5 +1,5 @@
 -- What a search by the machine is asked, and what it answers.
-use Rattle.std.specs.Prelude.{◌≡◌, ◌+◌, ◌<◌, ◌≤◌, ℕ, max, length, List, Option, Result, Err, IfOk}
+use Rattle.std.specs.Prelude.{◌≡◌, ◌+◌, ◌<◌, ◌≤◌, ℕ, max, length, Bool, true, false, List, Option, Some, None, Result, Ok, Err, IfOk}
 use Rattle.fancy_input.specs.declared.last_lines.LastLines.{LastLines}
 use Rattle.fancy_input.specs.declared.refusal.SearchRefusal.{SearchRefusal}
 use Rattle.fancy_input.specs.declared.refusal.SearchRefusal.TheVariants.{Returns, Choices}
@@ -61,6 +61,16 @@ branches_allowed cache = cache.trail.most
 -- Of two states of a cache the later one let no more branches be saved at one time than the earlier one did, or than this limit allows.
 abbrev pub HeedsLimit : ℕ → Cache → Cache → Type 0
 HeedsLimit limit before after = branches_allowed after ≤ max (branches_allowed before) limit
+
+-- what is found where an attempt at the position p finds something, and the trail then stands where that ends
+abbrev pub found_if : ℕ → Cache → Bool → Option Found
+found_if p cache false = None
+found_if p cache true = Some (record { position = p; start = cache.trail.now.state.kept; end = cache.trail.now.state.place })
+
+-- the same where it may be refused
+abbrev pub found_by : ℕ → Cache → Result Bool SearchRefusal → Result (Option Found) SearchRefusal
+found_by p cache (Ok found) = Ok (found_if p cache found)
+found_by p cache (Err refusal) = Err refusal
 
 -- What a search answers and counts, or an attempt, whose answer is `found` after so many returns and choices. It is refused for returns only where
 -- these pass their limit, and for a choice only where there are more than may be saved.

@@ -10,7 +10,7 @@ ghost use Rattle.fancy_meaning.specs.Tried.{tried, NoneTried};
 ghost use Rattle.fancy_input.specs.Work.{steps_of, returns_of, HasRoom};
 ghost use Rattle.fancy_prices.specs.Entries.{AreEntries, IsNextEntry, IsToldAt, is_entry};
 ghost use Rattle.fancy_splits.specs.Front.{IsFront};
-ghost use Rattle.fancy_machine.specs.Asked.{Serves, Asks, IsAsked, Answers, branches_allowed, groups_held, lines_held, seen_held};
+ghost use Rattle.fancy_machine.specs.Asked.{Serves, Asks, IsAsked, Answers, branches_allowed, found_by, groups_held, lines_held, seen_held};
 ghost use Rattle.fancy_machine.specs.Attempt.{KnowsSeen};
 ghost use Rattle.fancy_machine.specs.Front.{ArePriced, GoesPast, returns_ahead};
 ghost use Rattle.fancy_machine.specs.Log.{writes_allowed};
@@ -367,7 +367,7 @@ pub fn attempt_at(
 
 /// Makes one attempt at a position, where a match may begin there. No text past `range_end` is consumed, and no return is made
 /// past the limit, which bounds the count in `work`. Nothing is done past the limit of steps either.
-#[inline]
+#[inline(always)]
 fn try_position(
     attempts: &Attempt,
     position: usize,
@@ -384,20 +384,41 @@ fn try_position(
         result cache.old cache.new work.old work.new }
     ensures seen { KnowsSeen attempts.now (seen_held cache.new) }
 {
+    let found = finds_at(attempts, position, range_end, limit, cache, work)?;
+    if found {
+        return Ok(Some(Found {
+            position,
+            start: cache.trail.kept(),
+            end: cache.trail.place(),
+        }));
+    }
+    Ok(None)
+}
+
+/// Makes one attempt, as [`try_position`] does: whether it finds something. Then the trail stands where that ends.
+#[inline(never)]
+fn finds_at(
+    attempts: &Attempt,
+    position: usize,
+    range_end: usize,
+    limit: usize,
+    cache: &mut Cache,
+    work: &mut Work,
+) -> Result<bool, SearchRefusal>
+    ghost q: { Query }
+    requires asked { IsAsked q attempts.now range_end position }
+    requires ready { IsReady attempts.now limit (seen_held cache.old) work.old }
+    ensures answers { Answers attempts.now.options.now limit
+        (attempt q position) (returns_at q position) (choices_at q position)
+        (found_by position cache.new result) cache.old cache.new work.old work.new }
+    ensures seen { KnowsSeen attempts.now (seen_held cache.new) }
+{
     if !is_match_boundary(attempts.options.on_boundaries, attempts.haystack, position) {
-        return Ok(None);
+        return Ok(false);
     }
     let code = attempts.code;
     let trail = &mut cache.trail;
     let most = attempts.options.stack_limit;
     trail.begin(code.start, position, range_end, code.groups, most)?;
-    let found = attempts.run(trail, &mut cache.best, limit, &mut cache.seen, work)?;
-    if found {
-        return Ok(Some(Found {
-            position,
-            start: trail.kept(),
-            end: trail.place(),
-        }));
-    }
-    Ok(None)
+    attempts.run(trail, &mut cache.best, limit, &mut cache.seen, work)
 }

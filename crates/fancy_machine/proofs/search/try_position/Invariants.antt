@@ -1,5 +1,4 @@
-use Rattle.fancy_machine.proofs.MachineSearch.{deep_in}
 use Rattle.fancy_machine.proofs.search.try_position.Given as goal
 
-abbrev pub ghost-run : goal.ghost-run
-ghost-run g a = deep_in g.q
+abbrev pub ghost-finds_at : goal.ghost-finds_at
+ghost-finds_at g a = g.q
