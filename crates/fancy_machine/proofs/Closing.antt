@@ -29,7 +29,7 @@ join_some : (o p : Option (List Raw)) (w : List Raw) → join o p ≡ Some w →
 join_some None p w h = absurd (none-some w h)
 join_some (Some x) p w h = (x, refl)
 
-fenced_some : (found : Go) (ok : State → Bool) (missed o : Option (List Raw)) (w : List Raw) → fenced found ok missed o ≡ Some w → (x : List Raw) × (o ≡ Some x)
+pub fenced_some : (found : Go) (ok : State → Bool) (missed o : Option (List Raw)) (w : List Raw) → fenced found ok missed o ≡ Some w → (x : List Raw) × (o ≡ Some x)
 fenced_some found ok missed None w h = absurd (none-some w h)
 fenced_some found ok missed (Some x) w h = (x, refl)
 

@@ -24,3 +24,4 @@ pub mod ChoiceLemmas
 pub mod DropLemmas
 pub mod FrontLemmas
 pub mod PricedLemmas
+pub mod DenialLemmas

@@ -49,11 +49,11 @@ pub passed_fetch : (w rest : List Raw) → w ≡ Note fetched ∷ rest → Passe
 passed_fetch w rest e = subst (λ (l : List Raw). Passed 0 0 l rest) (sym e)
     (record { answer = λ l ok b. refl; returned_so = λ ok. omega arith; marked_so = λ ok. omega arith; shorter = omega arith })
 
-passed_mark : (w rest : List Raw) → w ≡ Note choice_opened ∷ rest → Passed 1 0 w rest
+pub passed_mark : (w rest : List Raw) → w ≡ Note choice_opened ∷ rest → Passed 1 0 w rest
 passed_mark w rest e = subst (λ (l : List Raw). Passed 1 0 l rest) (sym e)
     (record { answer = λ l ok b. refl; returned_so = λ ok. omega arith; marked_so = λ ok. omega arith; shorter = omega arith })
 
-passed_return : (w rest : List Raw) → w ≡ Note returned ∷ rest → Passed 0 1 w rest
+pub passed_return : (w rest : List Raw) → w ≡ Note returned ∷ rest → Passed 0 1 w rest
 passed_return w rest e = subst (λ (l : List Raw). Passed 0 1 l rest) (sym e)
     (record { answer = λ l ok b. refl; returned_so = λ ok. omega arith; marked_so = λ ok. omega arith; shorter = omega arith })
 

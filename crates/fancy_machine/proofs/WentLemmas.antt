@@ -1,5 +1,5 @@
 -- What going on did, from its parts.
-use Rattle.std.proofs.Common.{◌≡◌, ◌+◌, ℕ, Option, Result, Ok, Err, arith}
+use Rattle.std.proofs.Common.{◌≡◌, ◌+◌, ℕ, Option, Result, Ok, Err, arith, subst, sym}
 use Rattle.std.specs.Prelude.{IsErrAnd}
 use Rattle.fancy_input.specs.declared.refusal.SearchRefusal.{SearchRefusal}
 use Rattle.fancy_input.specs.declared.refusal.SearchRefusal.TheVariants.{Returns, Choices}
@@ -29,3 +29,9 @@ went_refused (Err x) e h least refused crowded most = record {
   crowded = λ is. crowded (passed_on (Err x) e Choices h is);
   most = most;
 }
+
+-- a refusal is passed on
+pub went_passed : {a : Attempt} {limit : ℕ} {old new : Held} {best now : Option State} {before after : Work} (r : Result Next SearchRefusal) (e : SearchRefusal) → IsErrAnd r (λ (x : SearchRefusal). x ≡ e)
+    → WentOn a limit (Err e) old best new now before after → WentOn a limit r old best new now before after
+went_passed (Ok next) e h w = absurd h
+went_passed {a} {limit} {old} {new} {best} {now} {before} {after} (Err x) e h w = subst (λ (y : SearchRefusal). WentOn a limit (Err y) old best new now before after) (sym h) w

@@ -11,3 +11,4 @@ pub mod Units
 pub mod Atoms
 pub mod Runs
 pub mod Front
+pub mod Denials

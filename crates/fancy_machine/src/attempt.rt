@@ -7,13 +7,14 @@ ghost use Rattle.fancy_code.specs.Queries.{query_of};
 ghost use Rattle.fancy_meaning.specs.Search.{continues_from};
 ghost use Rattle.fancy_input.specs.Work.{returns_of, AddsReturns};
 ghost use Rattle.fancy_code.specs.Thread.{IsKnown};
-ghost use Rattle.fancy_splits.specs.Splits.{AreSplits, IsPart};
+ghost use Rattle.fancy_splits.specs.Splits.{AreSplits};
 ghost use Rattle.fancy_meaning.specs.Context.{State};
 ghost use Rattle.fancy_splits.specs.Once.{splits_once};
 
 use crate::atoms::pass_atom;
 use crate::best::Best;
 use crate::choice::choose;
+use crate::denials::{pass_denial, sight_at};
 use crate::runs::pass;
 use crate::seen::Seen;
 use crate::step::step;
@@ -170,33 +171,8 @@ impl<'a> Attempt<'a> {
         }
     }
 
-    /// Goes on at an instruction of which something is told. A loop or an atomic group reads all items that stand.
-    fn pass_part(
-        &self,
-        part: &ToldPart,
-        trail: &mut Trail,
-        limit: usize,
-        seen: &mut Seen,
-        work: &mut Work,
-    ) -> Result<Next, SearchRefusal>
-        requires part { IsPart self.now.splits.now trail.old.now.at part.now }
-        requires ready { IsReady self.now limit seen.old work.old }
-        ensures went { (best : Option State) → WentOn self.now limit result
-            trail.old best trail.new best work.old work.new }
-        ensures counts { CountsGoing limit self.now.options.now.step_limit result work.old work.new }
-        ensures seen { KnowsSeen self.now seen.new }
-    {
-        match part {
-            ToldPart::Loop(split) => pass(self, split, trail, limit, &mut seen.last_run, work),
-            ToldPart::Choice(choice) => choose(self, choice, trail, limit, work),
-            ToldPart::Atom(atom) => {
-                pass_atom(self, atom, trail, limit, &mut seen.last_run, work)
-            }
-        }
-    }
-
-    /// Goes on: by a choice or an atomic group that is told, with all items that it reads, or by one instruction. The returns that it
-    /// takes are added to those of `work`, and none is taken past the limit.
+    /// Goes on: by a choice, an atomic group or a negated look-around that is told, with all items that it reads, or by one instruction. The
+    /// returns that it takes are added to those of `work`, and none is taken past the limit.
     fn advance(
         &self,
         trail: &mut Trail,
@@ -211,8 +187,21 @@ impl<'a> Attempt<'a> {
         ensures counts { CountsGoing limit self.now.options.now.step_limit result work.old work.new }
         ensures seen { KnowsSeen self.now seen.new }
     {
-        if let Some(part) = self.splits.part(trail.at()) {
-            return self.pass_part(part, trail, limit, seen, work);
+        match self.splits.part(trail.at()) {
+            Some(ToldPart::Loop(split)) => {
+                return pass(self, split, trail, limit, &mut seen.last_run, work);
+            }
+            Some(ToldPart::Choice(choice)) => return choose(self, choice, trail, limit, work),
+            Some(ToldPart::Atom(atom)) => {
+                return pass_atom(self, atom, trail, limit, &mut seen.last_run, work);
+            }
+            Some(ToldPart::Denial(denial)) => {
+                if let Some(sight) = sight_at(self, denial, trail) {
+                    let goes_on = pass_denial(self, denial, sight, trail, limit, work)?;
+                    return Ok(if goes_on { Next::On } else { Next::Dead });
+                }
+            }
+            None => {}
         }
         self.turn(trail, best, &mut seen.last_lines, work)
     }

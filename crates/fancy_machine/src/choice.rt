@@ -31,6 +31,7 @@ pub(crate) fn split(trail: &mut Trail, first: usize, second: usize) -> Result<Ne
 }
 
 /// Begins a condition, whose second branch is `other`.
+#[inline(never)]
 pub(crate) fn begin_condition(
     trail: &mut Trail,
     body: usize,

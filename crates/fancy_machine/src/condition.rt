@@ -63,6 +63,7 @@ fn is_continued(attempt: &Attempt, place: usize) -> bool
 }
 
 /// Tests `\G`.
+#[inline(never)]
 pub(crate) fn test_continued(attempt: &Attempt, trail: &mut Trail, next: usize) -> Next
     ensures { Follows attempt.now (Instr.Continue next) result trail.old trail.new }
 {

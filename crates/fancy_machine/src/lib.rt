@@ -7,6 +7,7 @@ mod attempt;
 mod best;
 mod choice;
 mod condition;
+mod denials;
 mod front;
 mod layer;
 mod log;

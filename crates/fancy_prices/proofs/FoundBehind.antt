@@ -25,7 +25,7 @@ use Rattle.fancy_prices.proofs.DyingWays.{dies_by, opened, read}
 use Rattle.fancy_prices.proofs.FactLemmas.{kind_before}
 use Rattle.fancy_prices.proofs.FlagLemmas.{both}
 
-get_within : (h : List ℕ) (p b : ℕ) → slice_get h p ≡ Some b → p < length h
+pub get_within : (h : List ℕ) (p b : ℕ) → slice_get h p ≡ Some b → p < length h
 get_within [] p b e = cc
 get_within (a ∷ h) zero b e = omega arith
 get_within (a ∷ h) (suc p) b e = omega (arith, get_within h p b e)
@@ -122,7 +122,7 @@ module _ (code : List Instruction) (kind : Before) (x : Context) (p b : ℕ) (st
         (by_steps (λ t. t.place == p + 1) item (Member edges next) member (moved_to s p) v (λ m. reads (moved_to s p) v refl m) n))
 
 -- what stands before is such a byte
-found_behind : (code : List Instruction) (kind : Before) (body : ℕ) → FindsBehind code kind body → (x : Context) (s : State) (v : List ℕ) → IsOfKind kind (byte_before x.haystack s.place)
+pub found_behind : (code : List Instruction) (kind : Before) (body : ℕ) → FindsBehind code kind body → (x : Context) (s : State) (v : List ℕ) → IsOfKind kind (byte_before x.haystack s.place)
     → (n : ℕ) → Meets (λ t. t.place == s.place) (run x (length x.haystack) code n body s v)
 found_behind code kind body finds x s v of = by s.place refl of where
   each : IsAlways kind (λ b. nat_lt b 128 && has finds.2.0 b)

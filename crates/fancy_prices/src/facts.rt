@@ -19,7 +19,7 @@ pub enum Before<'a> {
 
 /// What is told of how the text before a place ends.
 #[derive(Clone, Copy)]
-pub(crate) enum Ending<'a> {
+pub enum Ending<'a> {
     /// What its last byte is.
     Last(Before<'a>),
     /// The byte before its last one.

@@ -7,15 +7,21 @@ ghost use Rattle.fancy_code.specs.CodeLength.{code_len};
 ghost use Rattle.fancy_code.specs.CodeLength.{code_len};
 ghost use Rattle.fancy_code.specs.Instructions.{Character, Look, Match, Member, edges_in};
 ghost use Rattle.fancy_code.specs.Run.{instr_at};
+ghost use Rattle.fancy_prices.specs.declared.facts.Before.TheVariants.{Among};
+ghost use Rattle.fancy_prices.specs.declared.facts.Ending.TheVariants.{Last};
 ghost use Rattle.fancy_prices.specs.Facts.{IsAlways};
 ghost use Rattle.fancy_prices.specs.Prices.{BeginsNone, Dies, DiesBehind, EndsOtherwise, FindsBehind, FindsNone, IsDenied, IsQuiet, ReadsEach, ReadsLow, StopsNeverBehind};
 
 use crate::facts::{Before, Ending, Facts, may_end_with};
+use crate::kinds::Kind;
 use crate::price::Price;
 use fancy_code::code::{Code, Instr};
 use fancy_prefilter::items::is_ascii;
 use fancy_tree::char_set::CharSet;
 use fancy_tree::tree::Meaning;
+
+/// How many instructions of a look-behind are followed one after another.
+const DEPTH: usize = 48;
 
 /// Whether an item may begin with a byte: `is_item` tells whether there is one with the byte's own number, and `is_wide` whether
 /// there is one past ASCII.
@@ -211,6 +217,15 @@ pub(crate) fn price_behind(code: &Code, ending: Ending<'_>, deep: usize) -> Opti
     }
 }
 
+/// What the body of a look-behind costs where the last byte before its place is of this kind, and it finds nothing for that. `None`
+/// where that is not told.
+pub fn misses_behind(code: &Code, body: usize, kind: &Kind) -> Option<Price>
+    ensures { IfSome result (λ p.
+        StopsNeverBehind (instrs_of code.now) (Last (Among kind.entry)) p.marks p.returns body) }
+{
+    stops_never_behind(code, body, Ending::Last(Before::Among(kind)), DEPTH)
+}
+
 /// Whether each byte of this kind is ASCII, and by itself an item of the set.
 fn is_each_member(kind: Before<'_>, set: &CharSet) -> bool
     ensures { result ≡ true → IsAlways kind.entry (λ b. nat_lt b 128 && has (edges_in set.now) b) }
@@ -242,7 +257,7 @@ fn reads_each(code: &Code, at: usize, kind: Before<'_>) -> bool
 }
 
 /// Whether the code goes back over one item and finds it, behind each byte of this kind.
-fn finds_behind(code: &Code, at: usize, kind: Before<'_>) -> bool
+pub fn finds_behind(code: &Code, at: usize, kind: Before<'_>) -> bool
     ensures { result ≡ true → FindsBehind (instrs_of code.now) kind.entry at }
 {
     if at >= code.len() {

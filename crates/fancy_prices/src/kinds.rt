@@ -79,6 +79,13 @@ impl Kind {
         };
         Kind { bytes, word, wide }
     }
+
+    /// Whether a byte is one of them.
+    pub fn has(&self, byte: u8) -> bool
+        ensures { result ≡ member self.now.bytes byte }
+    {
+        self.bytes.contains(byte)
+    }
 }
 
 /// The bytes that are not in the set.
@@ -203,7 +210,7 @@ fn split_by_ends(
 
 /// Kinds of bytes that the code does not tell apart where they stand before a position, as far as there are few. No answer rests on it:
 /// where bytes of a kind are told apart after all, less is told of them.
-pub(crate) fn kinds_of(alloc: Global, code: &Code) -> Result<Vec<Kind>, AllocError> {
+pub fn kinds_of(alloc: Global, code: &Code) -> Result<Vec<Kind>, AllocError> {
     let mut sets = Vec::new(alloc);
     sets.push(ByteSet::all())?;
     for at in 0..code.len() {

@@ -1,4 +1,4 @@
-//! Code of one item.
+//! Code of one item, or of one test of the place.
 
 ghost use Rattle.std.specs.Prelude.{◌≡◌, IfSome, true};
 ghost use Rattle.fancy_code.specs.Code.{instrs_of};

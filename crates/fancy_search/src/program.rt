@@ -81,7 +81,7 @@ pub struct Program {
     code: Code,
     names: Names,
     easy: bool,
-    /// Whether each way of the code reads one item, after which a match is found, as far as this is told.
+    /// Whether each way of the code reads one item, or tests the place, after which a match is found, as far as this is told.
     one_item: bool,
     /// Whether the code reads items and tests places one after another, and then matches.
     straight: bool,
@@ -316,8 +316,8 @@ impl Program {
         !self.easy || self.code.prefilter.opening.may_hold(place, byte)
     }
 
-    /// Whether the pattern is one item, or alternatives of one item each, as far as its code tells, so that no match goes past an ASCII
-    /// character that it starts with. For a hard pattern the answer is `false`.
+    /// Whether the pattern is one item or one test of the place, or alternatives of one each, as far as its code tells, so that no match
+    /// goes past an ASCII character that it starts with. For a hard pattern the answer is `false`.
     pub fn is_one_item(&self) -> bool
         ensures { result ≡ true → EndsByOne self.now }
     {

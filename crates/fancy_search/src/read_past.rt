@@ -1,4 +1,5 @@
-//! How far searches by the automaton read on, which decides whether it serves those to come.
+//! How far searches by the automaton read on, which decides whether it serves those to come. What is near the end of a match is not
+//! noted (`NEAR` of `cache`).
 
 /// Searches leave the automaton once they have read so many bytes past the ends of their matches, and [`MADE_UP`] more for each byte
 /// that they came on by.

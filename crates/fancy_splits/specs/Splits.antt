@@ -18,9 +18,10 @@ use Rattle.fancy_splits.specs.declared.choices.SavedWays.TheVariants as w
 use Rattle.fancy_splits.specs.declared.choices.ToldChoice.{ToldChoice}
 use Rattle.fancy_splits.specs.declared.splits.ToldSplit.{ToldSplit}
 use Rattle.fancy_splits.specs.declared.splits.ToldPart.{ToldPart}
-use Rattle.fancy_splits.specs.declared.splits.ToldPart.TheVariants.{Loop, Choice, Atom}
+use Rattle.fancy_splits.specs.declared.splits.ToldPart.TheVariants.{Loop, Choice, Atom, Denial}
 use Rattle.fancy_splits.specs.declared.splits.Splits.{Splits}
 use Rattle.fancy_prices.specs.Prices.{Costs, Dies}
+use Rattle.fancy_splits.specs.Denials.{IsToldDenial}
 
 -- Where the byte b stands before the limit, the code at q opens the group g, reads the byte, closes the group, and goes on at `back`.
 abbrev pub ReadsByteIn : List Instruction → Meaning → ℕ → ℕ → ℕ → ℕ → Type 0
@@ -149,6 +150,7 @@ abbrev pub IsTold : List Instruction → Meaning → ℕ → ToldPart → Type 0
 IsTold code meaning at (Loop l) = IsToldSplit code meaning at l
 IsTold code meaning at (Choice c) = IsToldChoice code meaning at c
 IsTold code meaning at (Atom a) = IsToldAtom code meaning at a
+IsTold code meaning at (Denial l) = IsToldDenial code meaning at l
 
 -- each part that has a number stands at an instruction that it is noted for
 abbrev pub AreNoted : (ℕ → ToldPart → Type 0) → List (Option ℕ) → List ToldPart → Type 0

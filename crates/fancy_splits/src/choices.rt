@@ -156,7 +156,7 @@ impl ToldChoice {
 }
 
 /// Where the code goes on from an instruction that reads the byte as an item by itself, if it does.
-fn past_byte(code: &Code, at: usize, here: u8) -> Option<usize>
+pub(crate) fn past_byte(code: &Code, at: usize, here: u8) -> Option<usize>
     ensures { IfSome result (ReadsByte (instrs_of code.now) code.now.meaning here at) }
 {
     if at >= code.len() || !is_alone(code.meaning, here) {

@@ -3,6 +3,7 @@
 
 pub mod atoms;
 pub mod choices;
+pub mod denials;
 pub mod front;
 pub mod prices;
 pub mod splits;

@@ -11,6 +11,7 @@ ghost use Rattle.fancy_splits.specs.Splits.{AreApart, AreSplits, DiesPast, IsTol
 
 use crate::atoms::{ToldAtom, atom_at};
 use crate::choices::{ToldChoice, choice_at};
+use crate::denials::{ToldDenial, denial_at};
 use fancy_bytes::byte_set::ByteSet;
 use fancy_code::code::{Code, Instr};
 use fancy_code::items::items_at;
@@ -21,7 +22,7 @@ use fancy_tree::tree::Meaning;
 use std::alloc::{AllocError, Global};
 
 /// The most parts that are noted. For a choice it is asked of 256 bytes, at most three times, what the code does where the byte stands.
-const MOST: usize = 128;
+const MOST: usize = 192;
 
 /// How many instructions are followed one after another.
 const DEPTH: usize = 48;
@@ -92,9 +93,12 @@ pub enum ToldPart {
     Choice(ToldChoice),
     /// An atomic group begins there.
     Atom(ToldAtom),
+    /// A negated look-around stands there.
+    Denial(ToldDenial),
 }
 
-/// The choices and atomic groups of a code, by the number of their instruction: the first 128 of which something is told.
+/// The choices, atomic groups and negated look-arounds of a code, by the number of their instruction: the first 192 of which something
+/// is told.
 #[derive(Drop)]
 pub struct Splits {
     // at an instruction the number of its part, as far as the last one's instruction
@@ -316,8 +320,11 @@ fn part_at(
     if let Some(choice) = choice_at(alloc, splits, code, at)? {
         return Ok(Some(ToldPart::Choice(choice)));
     }
-    match atom_at(code, at) {
-        Some(atom) => Ok(Some(ToldPart::Atom(atom))),
+    if let Some(atom) = atom_at(code, at) {
+        return Ok(Some(ToldPart::Atom(atom)));
+    }
+    match denial_at(alloc, code, at)? {
+        Some(denial) => Ok(Some(ToldPart::Denial(denial))),
         None => Ok(None),
     }
 }
@@ -333,7 +340,7 @@ impl Splits {
         }
     }
 
-    /// The first 128 choices and atomic groups of a code of which something is told.
+    /// The first 192 choices, atomic groups and negated look-arounds of a code of which something is told.
     ///
     /// It is refused where memory runs out.
     pub fn of(alloc: Global, code: &Code) -> Result<Splits, AllocError>
