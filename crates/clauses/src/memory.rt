@@ -6,7 +6,7 @@ ghost use Rattle.fancy_meaning.specs.Search.{Query};
 ghost use Rattle.fancy_input.specs.Work.{HasRoom, returns_of};
 ghost use Rattle.fancy_input.specs.LastLines.{KnowsLastLines};
 ghost use Rattle.fancy_machine.specs.Asked.{Asks, HeedsLimit, branches_allowed, groups_held, lines_held};
-ghost use Rattle.fancy_machine.specs.Log.{writes_allowed};
+ghost use Rattle.fancy_trail.specs.Log.{writes_allowed};
 
 use fancy_code::found::Found;
 use fancy_input::refusal::SearchRefusal;

@@ -3,7 +3,6 @@ use Rattle.std.proofs.Common.{◌≡◌, ℕ, ◌+◌, ◌<◌, ◌≤◌, inl, 
 use Rattle.fancy_meaning.specs.Context.{Context, State}
 use Rattle.fancy_code.specs.Code.{instrs_of}
 use Rattle.fancy_code.specs.Instructions.{Instruction}
-use Rattle.fancy_code.specs.Instructions as i
 use Rattle.fancy_code.specs.Run.{Raw, Note, Stop, fetched, Go, before, run}
 use Rattle.fancy_code.specs.Thread.{size_of}
 use Rattle.fancy_code.specs.declared.step.Next.TheVariants.{On}
@@ -15,13 +14,15 @@ use Rattle.fancy_machine.specs.declared.atoms.Whole.{Whole}
 use Rattle.fancy_machine.specs.declared.attempt.Attempt.{Attempt}
 use Rattle.fancy_machine.specs.Attempt.{attempt_context, accepts, code_in, Seeks, Advanced, size_ahead}
 use Rattle.fancy_machine.specs.Atoms.{ComesTo, IsWhole, ReadsAll}
-use Rattle.fancy_machine.specs.Frames.{Atom, Frame, Held, Spot, Within, saved}
-use Rattle.fancy_machine.specs.Machine.{after, finish, left, at_instr, at_place, IsEndedByAny}
-use Rattle.fancy_machine.specs.Runs.{past_items}
-use Rattle.fancy_machine.proofs.Closing.{before_some, finish_known, finish_note}
+use Rattle.fancy_trail.specs.Frames.{Atom, Frame, Held, Spot, Within, saved}
+use Rattle.fancy_trail.specs.Left.{after, finish, left}
+use Rattle.fancy_trail.specs.Ways.{at_instr, at_place, IsEndedByAny, past_items}
+use Rattle.fancy_trail.proofs.Closing.{before_some, finish_known, finish_note}
 use Rattle.fancy_machine.proofs.MachineSteps.{acts}
 use Rattle.fancy_machine.proofs.PassLemmas.{Passed, passed_fetch, passed_then, at_byte, seeks_on, returns_to_come, choices_to_come}
-use Rattle.fancy_machine.proofs.CloseLemmas.{alone_items, closed, items_limit}
+use Rattle.fancy_trail.proofs.ItemLemmas.{alone_items, items_limit}
+use Rattle.fancy_machine.proofs.CloseLemmas.{closed}
+use Rattle.fancy_code.specs.Instructions as i
 
 -- a way that stops at once leaves the group
 pub at_close : (cx : Context) (code : List Instruction) (deep : ℕ) (z : Spot) (limit next : ℕ) (fs : List Frame) (w : List Raw) → StopsAt code z.at next → z.limit ≡ limit

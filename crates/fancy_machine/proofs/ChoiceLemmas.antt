@@ -4,11 +4,9 @@ use Rattle.std.specs.Prelude.{slice_get}
 use Rattle.std.proofs.lemmas.Option.{same_Some}
 use Rattle.std.proofs.Math.Logic.{∥∥₁_elim}
 use Rattle.std.proofs.Props.{props}
-use mathlib.Core.HLevel.{is_prop→PathP}
 use Rattle.fancy_meaning.specs.Context.{Context, State}
 use Rattle.fancy_code.specs.Code.{instrs_of}
 use Rattle.fancy_code.specs.Instructions.{Instruction}
-use Rattle.fancy_code.specs.Instructions as i
 use Rattle.fancy_code.specs.Run.{Raw, run}
 use Rattle.fancy_code.specs.declared.step.Next.TheVariants.{On, Dead}
 use Rattle.fancy_splits.specs.declared.choices.Onward.{Onward}
@@ -19,13 +17,16 @@ use Rattle.fancy_code.specs.Items.{ReadsByte}
 use Rattle.fancy_splits.specs.Splits.{IsToldChoice, Leads, LeadsOut, LeadsTo, Passes, ways_of}
 use Rattle.fancy_machine.specs.declared.attempt.Attempt.{Attempt}
 use Rattle.fancy_machine.specs.Attempt.{attempt_context, accepts, code_in, Seeks, SeeksBack, Advanced, size_ahead}
-use Rattle.fancy_machine.specs.Choices.{IsTaken, saved_ways}
-use Rattle.fancy_machine.specs.Frames.{Atom, Frame, Held, Saved, Spot, Within, saved}
-use Rattle.fancy_machine.specs.Machine.{finish, left, at_instr, at_place, IsEndedByAny}
+use Rattle.fancy_machine.specs.Choices.{IsTaken}
+use Rattle.fancy_trail.specs.Ways.{saved_ways, at_instr, at_place, IsEndedByAny, SavedOn}
+use Rattle.fancy_trail.specs.Frames.{Atom, Frame, Held, Saved, Spot, Within, saved}
+use Rattle.fancy_trail.specs.Left.{finish, left}
 use Rattle.fancy_machine.proofs.AtomLemmas.{at_close}
-use Rattle.fancy_machine.proofs.CloseLemmas.{SavedOn, at_stop}
+use Rattle.fancy_machine.proofs.CloseLemmas.{at_stop}
 use Rattle.fancy_machine.proofs.MachineSteps.{acts}
 use Rattle.fancy_machine.proofs.PassLemmas.{Passed, passed_fetch, passed_none, passed_then, at_byte, at_split, at_last_end, over, seeks_on, fewer_on, returns_to_come, choices_to_come}
+use mathlib.Core.HLevel.{is_prop→PathP}
+use Rattle.fancy_code.specs.Instructions as i
 
 -- so many marks and returns later something is left, if o is known
 abbrev Left : Option (List Raw) → ℕ → ℕ → List Raw → Type 0

@@ -1,117 +1,19 @@
 -- Items of a loop, where what follows them closes the innermost region: the branches at their places are never taken.
-use Rattle.std.proofs.Common.{◌≡◌, ℕ, zero, suc, ◌+◌, ◌<◌, Bool, true, List, [], ◌∷◌, ◌++◌, Option, Some, None, refl, sym, ap, ◌∙◌, subst, arith, slice_index, slice_set}
-use Rattle.std.specs.Prelude.{if◌then◌else◌}
-use Rattle.std.proofs.lemmas.List.{set-set}
-use Rattle.std.proofs.lemmas.Option.{none-some}
-use Rattle.fancy_input.specs.declared.span.Span.{Span}
-use Rattle.fancy_input.specs.Spans.{from_to}
-use Rattle.fancy_meaning.specs.Context.{Context, State}
+use Rattle.std.proofs.Common.{◌≡◌, ℕ, zero, suc, ◌+◌, ◌<◌, List, [], ◌∷◌, Option, Some, None, refl, sym, ap, ◌∙◌, subst, arith}
+use Rattle.fancy_meaning.specs.Context.{Context}
 use Rattle.fancy_code.specs.Instructions.{Instruction}
-use Rattle.fancy_code.specs.Run.{Raw, Note, Stop, returned, fetched, Go, before, guard, join, run}
+use Rattle.fancy_code.specs.Run.{Raw, Note, Stop, fetched, Go, before, run}
 use Rattle.fancy_code.proofs.RunMore.{run_more}
 use Rattle.fancy_splits.specs.declared.splits.ToldSplit.{ToldSplit}
 use Rattle.fancy_splits.specs.Splits.{IsToldSplit, StopsAt}
-use Rattle.fancy_machine.specs.Frames.{Spot, Region, Frame, Saved, Within}
-use Rattle.fancy_machine.specs.Machine.{after, finish, left, found_of, missed_of, wanted_by, at_instr, at_place, opened_at, closed_at, HasInnermost, IsEndedByAny}
-use Rattle.fancy_machine.specs.Runs.{HasItems, IsStuck, Stands, past_one, past_items}
-use Rattle.fancy_machine.proofs.Closing.{before_some, finish_known, finish_note}
+use Rattle.fancy_trail.specs.Frames.{Spot, Frame, Saved}
+use Rattle.fancy_trail.specs.Left.{after, finish, left}
+use Rattle.fancy_trail.specs.Ways.{SavedOn, at_instr, past_one, past_items, IsEndedByAny}
+use Rattle.fancy_machine.specs.Runs.{HasItems, IsStuck, Stands}
+use Rattle.fancy_trail.proofs.Closing.{before_some, finish_known, finish_note}
+use Rattle.fancy_trail.proofs.ItemLemmas.{one_at, one_limit, one_place}
+use Rattle.fancy_trail.proofs.StopLemmas.{stop_through, stop_alone}
 use Rattle.fancy_machine.proofs.PassLemmas.{Passed, passed_fetch, passed_then, at_split, at_byte, at_end, stuck_costs}
-
--- the way past items stands where they end, at the same instruction, by the same limit
-pub one_at : (group : Option ℕ) (x : Spot) → (past_one group x).at ≡ x.at
-one_at None x = refl
-one_at (Some g) x = refl
-
-pub one_limit : (group : Option ℕ) (x : Spot) → (past_one group x).limit ≡ x.limit
-one_limit None x = refl
-one_limit (Some g) x = refl
-
-pub items_limit : (group : Option ℕ) (n : ℕ) (x : Spot) → (past_items group n x).limit ≡ x.limit
-items_limit group zero x = refl
-items_limit group (suc n) x = items_limit group n (past_one group x) ∙ one_limit group x
-
-pub one_place : (group : Option ℕ) (x : Spot) → (past_one group x).state.place ≡ x.state.place + 1
-one_place None x = refl
-one_place (Some g) x = refl
-
--- items that stand in no group
-none_items : (n q : ℕ) (x : Spot) → at_instr q (past_items None n x) ≡ at_place q (x.state.place + n) x
-none_items zero q x = let e : x.state.place ≡ x.state.place + 0 = omega arith in ap (λ (p : ℕ). at_place q p x) e
-none_items (suc n) q x =
-    let e : x.state.place + 1 + n ≡ x.state.place + suc n = omega arith in
-    none_items n q (past_one None x) ∙ ap (λ (p : ℕ). at_place q p x) e
-
-pub alone_items : (group : Option ℕ) (n q : ℕ) (x : Spot) → (0 < n → group ≡ None) → at_instr q (past_items group n x) ≡ at_place q (x.state.place + n) x
-alone_items group zero q x alone = let e : x.state.place ≡ x.state.place + 0 = omega arith in ap (λ (p : ℕ). at_place q p x) e
-alone_items group (suc n) q x alone =
-    ap (λ (o : Option ℕ). at_instr q (past_items o (suc n) x)) (alone (omega arith)) ∙ none_items (suc n) q x
-
--- items that stand in a group: it holds the last one
-module _ (g q : ℕ) where
-  -- the way at a place, where the group began at another, after these spans and starts
-  abbrev held_in : Spot → ℕ → ℕ → List (Option Span) → List ℕ → Spot
-  held_in x start end spans starts =
-      record x { at = q; state = record x.state { place = end; captures = slice_set spans g (Some (from_to (slice_index (slice_set starts g start) g) end)) }; starts = slice_set starts g start }
-
-  pub group_items : (n : ℕ) (x : Spot) → at_instr q (past_items (Some g) (suc n) x) ≡ closed_at g q (at_place q (x.state.place + suc n) (opened_at g q (at_place q (x.state.place + n) x)))
-  group_items zero x =
-      let start : x.state.place ≡ x.state.place + 0 = omega arith in
-      ap (λ (p : ℕ). held_in x p (x.state.place + 1) x.state.captures x.starts) start
-  group_items (suc n) x =
-      let y = past_one (Some g) x in
-      let start : x.state.place + 1 + n ≡ x.state.place + suc n = omega arith in
-      let end : x.state.place + 1 + suc n ≡ x.state.place + suc (suc n) = omega arith in
-      group_items n y
-      ∙ ap (λ (p : ℕ). held_in x p (x.state.place + 1 + suc n) y.state.captures y.starts) start
-      ∙ ap (λ (p : ℕ). held_in x (x.state.place + suc n) p y.state.captures y.starts) end
-      ∙ again (x.state.place + suc n) (x.state.place + suc (suc n))
-    where
-      again : (a b : ℕ) → held_in x a b (past_one (Some g) x).state.captures (past_one (Some g) x).starts ≡ held_in x a b x.state.captures x.starts
-      again a b =
-          let starts_same : slice_set (slice_set x.starts g x.state.place) g a ≡ slice_set x.starts g a = set-set x.starts g x.state.place a in
-          let span = Some (from_to (slice_index (slice_set x.starts g a) g) b) in
-          ap (λ (v : List ℕ). record x { at = q; state = record x.state { place = b; captures = slice_set (past_one (Some g) x).state.captures g (Some (from_to (slice_index v g) b)) }; starts = v }) starts_same
-          ∙ ap (λ (c : List (Option Span)). record x { at = q; state = record x.state { place = b; captures = c }; starts = slice_set x.starts g a })
-          (set-set x.state.captures g (Some (from_to (slice_index (slice_set x.starts g x.state.place) g) (x.state.place + 1))) span)
-
--- these frames are others with so many saved branches above them
-abbrev pub SavedOn : ℕ → List Frame → List Frame → Type 0
-SavedOn zero gs fs = gs ≡ fs
-SavedOn (suc n) [] fs = ⊥
-SavedOn (suc n) (Saved y ∷ gs) fs = SavedOn n gs fs
-SavedOn (suc n) (Within r ∷ gs) fs = ⊥
-
-module _ (go : ℕ → Go) (q : ℕ) (s : State) (v : List ℕ) (w : List Raw) where
-  -- a stop comes through saved branches
-  stop_through : (m : ℕ) (gs fs : List Frame) (u : List Raw) → SavedOn m gs fs → finish go gs (Some (Stop q s v ∷ u)) ≡ Some w → (t : List Raw) × (finish go fs (Some (Stop q s v ∷ t)) ≡ Some w)
-  stop_through zero gs fs u on h = (u, sym (ap (λ (ks : List Frame). finish go ks (Some (Stop q s v ∷ u))) on) ∙ h)
-  stop_through (suc m) [] fs u on h = absurd on
-  stop_through (suc m) (Within r ∷ gs) fs u on h = absurd on
-  stop_through (suc m) (Saved y ∷ gs) fs u on h = by (after go y) refl (λ t g. stop_through m gs fs t on g) where
-    by : (o : Option (List Raw)) → after go y ≡ o → ((t : List Raw) → finish go gs (Some (Stop q s v ∷ t)) ≡ Some w → (t' : List Raw) × (finish go fs (Some (Stop q s v ∷ t')) ≡ Some w))
-        → (t : List Raw) × (finish go fs (Some (Stop q s v ∷ t)) ≡ Some w)
-    by None e again =
-        let k = finish_known go gs _ w (sym (ap (λ (p : Option (List Raw)). finish go gs (join (Some (Stop q s v ∷ u)) p)) e) ∙ h) in
-        absurd (none-some k.0 k.1)
-    by (Some a) e again = again (u ++ Note returned ∷ a) (sym (ap (λ (p : Option (List Raw)). finish go gs (join (Some (Stop q s v ∷ u)) p)) e) ∙ h)
-
-  -- what comes after a stop that ends the innermost region is nothing to what is left
-  stop_alone : (r : Region) (rest fs : List Frame) (u t : List Raw) → HasInnermost fs r rest → wanted_by r s ≡ true → finish go fs (Some (Stop q s v ∷ u)) ≡ Some w
-      → finish go fs (Some (Stop q s v ∷ t)) ≡ Some w
-  stop_alone r rest [] u t o ends h = absurd o
-  stop_alone r rest (Saved y ∷ fs) u t o ends h = by (after go y) refl (λ a b g. stop_alone r rest fs a b o ends g) where
-    by : (p : Option (List Raw)) → after go y ≡ p → ((a b : List Raw) → finish go fs (Some (Stop q s v ∷ a)) ≡ Some w → finish go fs (Some (Stop q s v ∷ b)) ≡ Some w)
-        → finish go fs (join (Some (Stop q s v ∷ t)) (after go y)) ≡ Some w
-    by None e again =
-        let k = finish_known go fs _ w (sym (ap (λ (p : Option (List Raw)). finish go fs (join (Some (Stop q s v ∷ u)) p)) e) ∙ h) in
-        absurd (none-some k.0 k.1)
-    by (Some a) e again =
-        ap (λ (p : Option (List Raw)). finish go fs (join (Some (Stop q s v ∷ t)) p)) e
-        ∙ again (u ++ Note returned ∷ a) (t ++ Note returned ∷ a) (sym (ap (λ (p : Option (List Raw)). finish go fs (join (Some (Stop q s v ∷ u)) p)) e) ∙ h)
-  stop_alone r rest (Within p ∷ fs) u t o ends h =
-      let good : wanted_by p s ≡ true = ap (λ (y : Region). wanted_by y s) o.0 ∙ ends in
-      ap (λ (c : Bool). finish go fs (if c then (found_of go p q s v) else (guard (found_of go p) (wanted_by p) (missed_of go p) t))) good
-      ∙ sym (ap (λ (c : Bool). finish go fs (if c then (found_of go p q s v) else (guard (found_of go p) (wanted_by p) (missed_of go p) u))) good) ∙ h
 
 module _ (cx : Context) (code : List Instruction) (deep : ℕ) where
   abbrev go : ℕ → Go

@@ -6,7 +6,6 @@ use Rattle.fancy_meaning.specs.Context.{Context, State}
 use Rattle.fancy_meaning.specs.Events.{ends_look}
 use Rattle.fancy_code.specs.Code.{instrs_of}
 use Rattle.fancy_code.specs.Instructions.{Instruction}
-use Rattle.fancy_code.specs.Instructions as i
 use Rattle.fancy_code.specs.Run.{Raw, Note, Stop, choice_opened, returned, fetched, Go, before, guard, fenced, halt, run}
 use Rattle.fancy_code.specs.declared.step.Next.TheVariants.{On, Dead}
 use Rattle.fancy_prices.specs.Prices.{Meets, MeetsIn, Misses, MissesIn}
@@ -17,12 +16,14 @@ use Rattle.fancy_splits.specs.declared.denials.ToldDenial.{ToldDenial}
 use Rattle.fancy_splits.specs.Denials.{IsSight, IsToldDenial}
 use Rattle.fancy_machine.specs.declared.attempt.Attempt.{Attempt}
 use Rattle.fancy_machine.specs.Attempt.{attempt_context, accepts, code_in, Seeks, SeeksBack, Advanced, size_ahead}
-use Rattle.fancy_machine.specs.Frames.{Frame, Held, saved}
+use Rattle.fancy_trail.specs.Frames.{Frame, Held, saved}
 use Rattle.fancy_machine.specs.Denials.{IsSeen, Tells, as_next}
-use Rattle.fancy_machine.specs.Machine.{after, finish, left, at_instr}
-use Rattle.fancy_machine.proofs.Closing.{before_some, fenced_some, finish_known, finish_note, take_branch}
+use Rattle.fancy_trail.specs.Left.{after, finish, left}
+use Rattle.fancy_trail.specs.Ways.{at_instr}
+use Rattle.fancy_trail.proofs.Closing.{before_some, fenced_some, finish_known, finish_note, take_branch}
 use Rattle.fancy_machine.proofs.MachineSteps.{acts}
 use Rattle.fancy_machine.proofs.PassLemmas.{Passed, passed_none, passed_then, passed_fetch, passed_mark, passed_return, seeks_on, fewer_on, returns_to_come}
+use Rattle.fancy_code.specs.Instructions as i
 
 -- what is left of a region whose body is not found, and of one whose body is, where nothing follows that
 module _ (go : ℕ → Go) (wanted : State → Bool) (fs : List Frame) where

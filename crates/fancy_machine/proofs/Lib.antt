@@ -1,13 +1,6 @@
-pub mod Closing
 pub mod WorkLemmas
 pub mod MachineSteps
 pub mod MachineLemmas
-pub mod LogLemmas
-pub mod LayerLemmas
-pub mod WriteLemmas
-pub mod RegionLemmas
-pub mod RoomLemmas
-pub mod TrailStops
 pub mod ContinuesLemmas
 pub mod MachineSearch
 pub mod SeekLemmas
@@ -21,7 +14,6 @@ pub mod CloseLemmas
 pub mod AtomLemmas
 pub mod LoopLemmas
 pub mod ChoiceLemmas
-pub mod DropLemmas
 pub mod FrontLemmas
 pub mod PricedLemmas
 pub mod DenialLemmas

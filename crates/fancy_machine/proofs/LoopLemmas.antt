@@ -11,11 +11,13 @@ use Rattle.fancy_splits.specs.Splits.{IsToldSplit}
 use Rattle.fancy_machine.specs.declared.attempt.Attempt.{Attempt}
 use Rattle.fancy_machine.specs.declared.runs.Run.{Run}
 use Rattle.fancy_machine.specs.Attempt.{attempt_context, accepts, code_in, Seeks, SeeksBack, Advanced, size_ahead}
-use Rattle.fancy_machine.specs.Frames.{Frame, Held, Spot, saved}
-use Rattle.fancy_machine.specs.Machine.{finish, left, at_instr, at_place, saved_run}
-use Rattle.fancy_machine.specs.Runs.{DieFrom, IsRun, past_items}
+use Rattle.fancy_trail.specs.Frames.{Frame, Held, Spot, saved}
+use Rattle.fancy_trail.specs.Left.{finish, left}
+use Rattle.fancy_trail.specs.Ways.{at_instr, at_place, saved_run, past_items}
+use Rattle.fancy_machine.specs.Runs.{DieFrom, IsRun}
 use Rattle.fancy_machine.proofs.PassLemmas.{Passed, passed_none, passed_then, read_on, gone_back, gone_dead, saved_by_run, seeks_on, fewer_on, returns_to_come, choices_to_come}
-use Rattle.fancy_machine.proofs.CloseLemmas.{alone_items, closed}
+use Rattle.fancy_trail.proofs.ItemLemmas.{alone_items}
+use Rattle.fancy_machine.proofs.CloseLemmas.{closed}
 
 -- an attempt that stands at a choice, and read ahead there
 module _ (a : Attempt) (l : ToldSplit) (h : Held) (run : Run) (is : IsToldSplit (instrs_of a.code.now) a.code.now.meaning h.now.at l) (read : IsRun l a.haystack.now h run) (best : Option State) where

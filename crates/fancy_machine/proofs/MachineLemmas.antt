@@ -1,22 +1,23 @@
 -- What an attempt still has before it.
 use Rattle.std.proofs.Common.{◌≡◌, ℕ, suc, ◌+◌, ◌-◌, ◌<◌, ◌≤◌, Bool, true, false, List, [], ◌∷◌, Option, Some, None, refl, sym, ap, ap₂, ◌∙◌, subst, inl, inr, arith, length, not, ◌&&◌}
-use Rattle.std.specs.Prelude.{if◌then◌else◌}
+use Rattle.std.specs.Prelude.{if◌then◌else◌, Result, Ok, Err, IfOk, OnOk}
 use Rattle.fancy_code.specs.declared.step.Next.TheVariants.{On, Dead, Found}
 use Rattle.fancy_meaning.specs.Context.{State}
 use Rattle.fancy_code.specs.Run.{Raw, Note, Stop, fetched, Go, erase}
-use Rattle.fancy_machine.specs.Frames.{Spot, Frame, Held, saved}
+use Rattle.fancy_trail.specs.Frames.{Spot, Frame, Held, saved}
 use Rattle.fancy_code.specs.Thread.{size_of, IsKnown, events_of}
-use Rattle.fancy_machine.specs.Machine.{IsSpent, Takes, left, after, finish, IsStep, Crowded, Turned, Fewer, Searching, better, taken_outcome, final, returns_to, marks_to}
-use Rattle.std.specs.Prelude.{Result, Ok, Err, IfOk, OnOk}
+use Rattle.fancy_trail.specs.Ways.{IsSpent, Takes, TookBranch}
+use Rattle.fancy_trail.specs.Left.{left, after, finish, IsStep}
+use Rattle.fancy_machine.specs.Machine.{Crowded, Turned, Fewer, Searching, taken_outcome, final, returns_to, marks_to}
+use Rattle.fancy_trail.specs.Best.{better}
 use Rattle.fancy_input.specs.declared.work.Work.{Work}
 use Rattle.fancy_input.specs.declared.refusal.SearchRefusal.{SearchRefusal}
 use Rattle.fancy_input.specs.declared.refusal.SearchRefusal.TheVariants.{Memory, Returns, Choices, Steps}
 use Rattle.fancy_input.specs.Work.{returns_of}
-use Rattle.fancy_machine.specs.Machine.{TookBranch}
 use Rattle.fancy_code.specs.declared.step.Next.{Next}
 use Rattle.fancy_machine.specs.declared.attempt.Attempt.{Attempt}
 use Rattle.fancy_machine.specs.Attempt.{Advanced, BackTakes, GoesBack, PassesBack, IsFull, Seeks, SeeksBack, TurnsTo, accepts, code_in, size_ahead}
-use Rattle.fancy_machine.proofs.Closing.{finish_back, finish_spent, finish_unspent, saved_taken}
+use Rattle.fancy_trail.proofs.Closing.{finish_back, finish_spent, finish_unspent, saved_taken}
 
 module _ (go : ℕ → Go) (longest : Bool) (ok : State → Bool) (best : Option State) (w : List Raw) (x : Spot) (fs : List Frame) (y : Spot) (gs : List Frame) where
   pub turn_on : IsStep go On w x fs y gs → Turned go longest ok On w best fs y best gs

@@ -4,7 +4,6 @@ use Rattle.std.specs.Prelude.{if◌then◌else◌, is_some, option_map}
 use Rattle.std.proofs.lemmas.List.{length-replicate, append-nil}
 use Rattle.std.proofs.Math.Logic.{∥∥₁_elim}
 use Rattle.std.proofs.Props.{props}
-use mathlib.Core.HLevel.{⊥_prop, Unit-prop}
 use Rattle.fancy_input.specs.declared.span.Span.{Span}
 use Rattle.fancy_tree.specs.Pattern.{Pattern}
 use Rattle.fancy_input.specs.declared.input.Request.{Request}
@@ -18,7 +17,7 @@ use Rattle.fancy_meaning.specs.Trace.{trace, outcomes}
 use Rattle.fancy_code.specs.Run.{Raw, Given, run}
 use Rattle.fancy_code.specs.Compile.{IsCodeOf, depth}
 use Rattle.fancy_meaning.specs.Search.{Query, context_of, initial, trace_at, outcomes_at, is_match_boundary, accepted, first_one, further, longest_one, Answer, answer_at, attempt, before_accepted, gone_through, gone_at, gone_from, returns_at, choices_at}
-use Rattle.fancy_code.specs.Thread.{empty_slot, slot_span, slot_from}
+use Rattle.fancy_code.specs.Thread.{empty_slot, slot_span, slot_from, IsKnown, events_of}
 use Rattle.fancy_meaning.proofs.AttemptLemmas.{attempt_some, attempt_none}
 use Rattle.fancy_meaning.proofs.SearchLemmas.{is-accepted, is-no_answer}
 use Rattle.fancy_code.proofs.ThreadLemmas.{map-replicate}
@@ -26,11 +25,13 @@ use Rattle.fancy_code.proofs.WholeCode.{Whole, program_gives}
 use Rattle.fancy_machine.specs.declared.attempt.Attempt.{Attempt}
 use Rattle.fancy_machine.specs.Attempt.{accepts, code_in, events_from, outcome_from, returns_from, marks_from}
 use Rattle.fancy_machine.specs.Asked.{Serves, IsAsked}
-use Rattle.fancy_machine.specs.Frames.{Spot}
+use Rattle.fancy_trail.specs.Frames.{Spot}
 use Rattle.fancy_input.specs.Places.{is_boundary}
-use Rattle.fancy_machine.specs.Layers.{spot_of}
-use Rattle.fancy_code.specs.Thread.{IsKnown, events_of}
-use Rattle.fancy_machine.specs.Machine.{after, better, taken_outcome, final, returns_to, marks_to}
+use Rattle.fancy_trail.specs.Layers.{spot_of}
+use Rattle.fancy_trail.specs.Left.{after}
+use Rattle.fancy_trail.specs.Best.{better}
+use Rattle.fancy_machine.specs.Machine.{taken_outcome, final, returns_to, marks_to}
+use mathlib.Core.HLevel.{⊥_prop, Unit-prop}
 
 -- the position p may be tried
 abbrev pub admits : Query → ℕ → Bool

@@ -3,40 +3,18 @@ use Rattle.std.proofs.Common.{◌≡◌, ℕ, ◌+◌, ◌≤◌, ◌<◌, Bool,
 use Rattle.std.specs.Prelude.{nat_le, ◌==◌, if◌then◌else◌}
 use Rattle.std.proofs.lemmas.Bool.{le-leb, lt-leb}
 use Rattle.fancy_code.specs.Instructions.{Instruction}
-use Rattle.fancy_code.specs.Instructions as i
 use Rattle.fancy_code.specs.declared.step.Next.{Next}
 use Rattle.fancy_code.specs.declared.step.Next.TheVariants.{On, Dead, Found}
 use Rattle.fancy_meaning.specs.Context.{Context, moved_to, units_back, option_to}
 use Rattle.fancy_meaning.specs.Backreference.{past_backreference}
 use Rattle.fancy_code.specs.Run.{Raw, Note, Stop, choice_opened, fetched, Go, before, instr_at, act, run, onward, rejoin}
 use Rattle.fancy_code.proofs.RunMore.{known_act}
-use Rattle.fancy_machine.specs.Frames.{Spot, Region, Frame, Atom, LookAround, Denial, Condition, Saved, Within, saved}
-use Rattle.fancy_machine.specs.Machine.{after, finish, left, IsStep, Crowded, IsBare, HasInnermost, wanted_by, at_instr, at_place, opened_at, closed_at, kept_at, within_at, MovedTo, RecalledTo, WentIf}
-use Rattle.fancy_machine.proofs.Closing.{before_some, finish_note, finish_known, finish_bare, finish_ends, finish_elsewhere, saved_below}
-
--- a way stops
-module _ (go : ℕ → Go) (q : ℕ) (x : Spot) (fs : List Frame) (u : List Raw) (h : finish go fs (Some (Stop q x.state x.starts ∷ [])) ≡ Some u) where
-  pub stop_bare : IsBare fs → IsStep go Found (Note fetched ∷ u) x fs x fs
-  stop_bare bare =
-      let b = finish_bare go fs q x.state x.starts [] u h bare in
-      (b.0, q, b.1, ap (λ (l : List Raw). Note fetched ∷ l) b.2, omega arith)
-
-  pub stop_elsewhere : (r : Region) (rest : List Frame) → HasInnermost fs r rest → wanted_by r x.state ≡ false → IsStep go Dead (Note fetched ∷ u) x fs x fs
-  stop_elsewhere r rest o bad = (u, finish_elsewhere go fs rest r q x.state x.starts [] u h o bad, refl, omega arith)
-
-  pub stop_atom : (l : ℕ) (gs : List Frame) → HasInnermost fs (Atom l) gs → IsStep go On (Note fetched ∷ u) x fs (within_at q l x) gs
-  stop_atom l gs o = (u, finish_ends go fs gs (Atom l) q x.state x.starts [] u h o refl, inl (refl, saved_below fs gs (Atom l) o))
-
-  pub stop_look : (behind : Bool) (next p l : ℕ) (gs : List Frame) → HasInnermost fs (LookAround behind next p l) gs → wanted_by (LookAround behind next p l) x.state ≡ true
-      → IsStep go On (Note fetched ∷ u) x fs (within_at next l (at_place next p x)) gs
-  stop_look behind next p l gs o good = (u, finish_ends go fs gs (LookAround behind next p l) q x.state x.starts [] u h o good, inl (refl, saved_below fs gs (LookAround behind next p l) o))
-
-  pub stop_denial : (behind : Bool) (d y : Spot) (gs : List Frame) → HasInnermost fs (Denial behind d) gs → wanted_by (Denial behind d) x.state ≡ true
-      → IsStep go Dead (Note fetched ∷ u) x fs y gs
-  stop_denial behind d y gs o good = (u, finish_ends go fs gs (Denial behind d) q x.state x.starts [] u h o good, refl, saved_below fs gs (Denial behind d) o)
-
-  pub stop_condition : (c : Spot) (gs : List Frame) → HasInnermost fs (Condition c) gs → IsStep go On (Note fetched ∷ u) x fs (within_at q c.limit x) gs
-  stop_condition c gs o = (u, finish_ends go fs gs (Condition c) q x.state x.starts [] u h o refl, inl (refl, saved_below fs gs (Condition c) o))
+use Rattle.fancy_trail.specs.Frames.{Spot, Frame, Atom, LookAround, Denial, Condition, Saved, Within, saved}
+use Rattle.fancy_trail.specs.Left.{after, finish, left, IsStep}
+use Rattle.fancy_machine.specs.Machine.{Crowded, MovedTo, RecalledTo, WentIf}
+use Rattle.fancy_trail.specs.Ways.{at_instr, at_place, opened_at, closed_at, kept_at, within_at}
+use Rattle.fancy_trail.proofs.Closing.{before_some, finish_note, finish_known}
+use Rattle.fancy_code.specs.Instructions as i
 
 module _ (cx : Context) (code : List Instruction) (deep : ℕ) (x : Spot) (fs : List Frame) (w : List Raw) (known : left (λ l. run cx l code deep) x fs ≡ Some w) where
   abbrev go : ℕ → Go

@@ -6,7 +6,6 @@ use Rattle.std.proofs.lemmas.Bool.{cases_eq}
 use Rattle.fancy_bytes.specs.Sets.{member}
 use Rattle.fancy_meaning.specs.Context.{Context, State}
 use Rattle.fancy_code.specs.Instructions.{Instruction}
-use Rattle.fancy_code.specs.Instructions as i
 use Rattle.fancy_meaning.specs.Events.{any}
 use Rattle.fancy_code.specs.Run.{Raw, Note, Stop, choice_opened, returned, fetched, Go, before, join, erase, instr_at, run}
 use Rattle.fancy_code.specs.Thread.{size_of}
@@ -20,12 +19,15 @@ use Rattle.fancy_prices.specs.Prices.{Costs, MissesIn, Dies}
 use Rattle.fancy_code.specs.Code.{instrs_of}
 use Rattle.fancy_machine.specs.declared.attempt.Attempt.{Attempt}
 use Rattle.fancy_machine.specs.Attempt.{attempt_context, accepts, code_in, BackTakes, DieFirst, PassesBack, SeeksBack}
-use Rattle.fancy_machine.specs.Frames.{Spot, Frame, Held, Saved, Within, saved}
-use Rattle.fancy_machine.specs.Machine.{after, finish, left, at_instr, at_place, saved_run, Searching, taken_outcome, final, returns_to, marks_to}
+use Rattle.fancy_trail.specs.Frames.{Spot, Frame, Held, Saved, Within, saved}
+use Rattle.fancy_trail.specs.Left.{after, finish, left}
+use Rattle.fancy_trail.specs.Ways.{at_instr, at_place, saved_run}
+use Rattle.fancy_machine.specs.Machine.{Searching, taken_outcome, final, returns_to, marks_to}
 use Rattle.fancy_machine.specs.declared.runs.LastRun.{LastRun}
 use Rattle.fancy_machine.specs.Runs.{HasItems, IsStuck, DieFrom, KnowsRun, Lacks, Stands}
-use Rattle.fancy_machine.proofs.Closing.{before_some, finish_known, finish_note, join_nothing, join_note, take_branch}
+use Rattle.fancy_trail.proofs.Closing.{before_some, finish_known, finish_note, join_nothing, join_note, take_branch}
 use Rattle.fancy_machine.proofs.MachineSteps.{acts}
+use Rattle.fancy_code.specs.Instructions as i
 
 -- What is left after w is `rest`: between them no way stops, and there are so many marks and returns.
 pub record Passed (marks returns : ℕ) (w rest : List Raw) : Type 0 where

@@ -8,7 +8,7 @@ use Rattle.fancy_input.specs.Work.{returns_of}
 use Rattle.fancy_code.specs.declared.step.Next.{Next}
 use Rattle.fancy_meaning.specs.Context.{State}
 use Rattle.fancy_machine.specs.declared.attempt.Attempt.{Attempt}
-use Rattle.fancy_machine.specs.Frames.{Held}
+use Rattle.fancy_trail.specs.Frames.{Held}
 use Rattle.fancy_machine.specs.Attempt.{TakesAtLeast, IsOverfull}
 use Rattle.fancy_machine.specs.Parts.{WentOn}
 use Rattle.fancy_machine.proofs.RefusalLemmas.{passed_on}

@@ -5,7 +5,7 @@ use Rattle.fancy_splits.specs.declared.splits.ToldSplit.{ToldSplit}
 use Rattle.fancy_splits.specs.Splits.{IsNoted}
 use Rattle.fancy_machine.specs.declared.atoms.Whole.{Whole}
 use Rattle.fancy_machine.specs.declared.attempt.Attempt.{Attempt}
-use Rattle.fancy_machine.specs.Frames.{Spot}
+use Rattle.fancy_trail.specs.Frames.{Spot}
 use Rattle.fancy_machine.specs.Runs.{HasItems, IsStuck, Stands}
 
 -- the loop of the group begins at p: where the way stands, or past the item before it

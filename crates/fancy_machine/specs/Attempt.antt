@@ -10,10 +10,11 @@ use Rattle.fancy_meaning.specs.Search.{is_match_boundary}
 use Rattle.fancy_code.specs.Run.{Raw, Go, run, instr_at}
 use Rattle.fancy_prices.specs.Prices.{Dies}
 use Rattle.fancy_splits.specs.Splits.{byte_alone}
-use Rattle.fancy_machine.specs.Frames.{Spot, Held, Frame, Saved, Within}
+use Rattle.fancy_trail.specs.Frames.{Spot, Held, Frame, Saved, Within}
 use Rattle.fancy_code.specs.Thread.{events_of, size_of}
 use Rattle.fancy_code.specs.declared.step.Next.TheVariants.{On, Dead, Found}
-use Rattle.fancy_machine.specs.Machine.{left, after, IsStep, Crowded, Turned, Searching, finish, taken_outcome, final, returns_to, marks_to}
+use Rattle.fancy_trail.specs.Left.{left, after, IsStep, finish}
+use Rattle.fancy_machine.specs.Machine.{Crowded, Turned, Searching, taken_outcome, final, returns_to, marks_to}
 use Rattle.fancy_machine.specs.declared.attempt.Attempt.{Attempt}
 use Rattle.fancy_machine.specs.declared.seen.Seen.{Seen}
 use Rattle.fancy_input.specs.LastLines.{KnowsLastLines}
@@ -151,11 +152,6 @@ GoesBack a taken returns old new =
 -- No attempt takes fewer returns in all than these, if it had so many before it went back.
 abbrev pub BackTakes : Attempt → ℕ → ℕ → Held → Type 0
 BackTakes a before returns h = (deep : ℕ) (goal : Option State) (total choices : ℕ) (best : Option State) → SeeksBack a deep goal total choices h best before → returns ≤ total
-
--- the state that an attempt stands at, if it found one
-abbrev pub state_if_found : Bool → Spot → Option State
-state_if_found false x = None
-state_if_found true x = Some x.state
 
 -- what is remembered of the haystack of the attempts is true
 pub record KnowsSeen (a : Attempt) (s : Seen) : Type 0 where

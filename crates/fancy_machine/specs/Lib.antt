@@ -1,7 +1,3 @@
-pub mod Frames
-pub mod Log
-pub mod Layers
-pub mod Moves
 pub mod Machine
 pub mod Attempt
 pub mod Choices

@@ -12,7 +12,7 @@ use Rattle.fancy_splits.specs.Splits.{IsNoted}
 use Rattle.fancy_machine.specs.declared.attempt.Attempt.{Attempt}
 use Rattle.fancy_machine.specs.declared.runs.LastRun.{LastRun}
 use Rattle.fancy_machine.specs.declared.seen.Seen.{Seen}
-use Rattle.fancy_machine.specs.Frames.{Held}
+use Rattle.fancy_trail.specs.Frames.{Held}
 use Rattle.fancy_machine.specs.Attempt.{KnowsSeen, StepsTo, FollowsInstr, IsFull, IsFullFor, Advances, TakesAtLeast, IsOverfull, BackTakes}
 use Rattle.fancy_machine.specs.Runs.{KnowsRun}
 use Rattle.fancy_machine.specs.Units.{CountsOn}

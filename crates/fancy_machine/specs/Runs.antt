@@ -1,12 +1,12 @@
 -- Where the items of a loop stand, and where what follows it dies.
-use Rattle.std.specs.Prelude.{◌≡◌, ℕ, zero, suc, ◌+◌, ◌-◌, ◌^◌, ◌<◌, ◌≤◌, ◌⊎◌, true, false, List, Option, Some, None, slice_get}
+use Rattle.std.specs.Prelude.{◌≡◌, ℕ, ◌+◌, ◌-◌, ◌^◌, ◌<◌, ◌≤◌, ◌⊎◌, true, false, List, Some, None, slice_get}
 use Rattle.fancy_bytes.specs.Sets.{ByteFlags, member}
 use Rattle.fancy_splits.specs.declared.splits.ToldSplit.{ToldSplit}
 use Rattle.fancy_splits.specs.declared.splits.Splits.{Splits}
 use Rattle.fancy_splits.specs.Splits.{IsNoted, IsPast}
 use Rattle.fancy_machine.specs.declared.runs.Run.{Run}
-use Rattle.fancy_machine.specs.Frames.{Spot, Frame, Held}
-use Rattle.fancy_machine.specs.Machine.{at_place, opened_at, closed_at, IsEndedByAny}
+use Rattle.fancy_trail.specs.Frames.{Frame, Held}
+use Rattle.fancy_trail.specs.Ways.{IsEndedByAny}
 use Rattle.fancy_machine.specs.declared.runs.LastRun.{LastRun}
 
 -- a byte of these stands at a place
@@ -20,16 +20,6 @@ Lacks bytes haystack p = (b : ℕ) × (slice_get haystack p ≡ Some b) × (b < 
 -- the first way of a loop dies at a place, where consumed text ends by a limit: a byte tells it, or nothing is consumed any more
 abbrev pub IsStuck : ToldSplit → List ℕ → ℕ → ℕ → Type 0
 IsStuck l haystack limit p = Lacks l.begins haystack p ⊎ IsPast haystack limit p
-
--- the way past an item of one byte, in a group if there is one
-abbrev pub past_one : Option ℕ → Spot → Spot
-past_one None x = at_place x.at (x.state.place + 1) x
-past_one (Some g) x = closed_at g x.at (at_place x.at (x.state.place + 1) (opened_at g x.at x))
-
--- the way past so many of them
-abbrev pub past_items : Option ℕ → ℕ → Spot → Spot
-past_items group zero x = x
-past_items group (suc n) x = past_items group n (past_one group x)
 
 -- from a place on so many items of the loop stand one after another, each of them one byte
 abbrev pub HasItems : ToldSplit → List ℕ → ℕ → ℕ → Type 0

@@ -7,7 +7,7 @@ use Rattle.fancy_code.specs.Code.{instrs_of}
 use Rattle.fancy_meaning.specs.Context.{State, group_span}
 use Rattle.fancy_code.specs.Instructions.{Instruction, Match, Fail, Character, Member, RawByte, Assert, Split, Open, Close, Enter, Commit, Look, Deny, Test, Back, Recall, Keep, Continue, Taken}
 use Rattle.fancy_code.specs.Run.{instr_at}
-use Rattle.fancy_machine.specs.Frames.{Spot}
+use Rattle.fancy_trail.specs.Frames.{Spot}
 use Rattle.fancy_machine.specs.declared.attempt.Attempt.{Attempt}
 
 -- how many bytes the text of a span has, 0 where there is none

@@ -10,13 +10,13 @@ ghost use Rattle.fancy_machine.specs.Runs.{KnowsRun};
 ghost use Rattle.fancy_machine.specs.Parts.{GoesOver, CountsGoing, WentOn};
 
 use crate::attempt::Attempt;
-use crate::layer::Kind;
 use crate::runs::{LastRun, may_stand, read_run};
-use crate::trail::Trail;
 use fancy_code::step::Next;
 use fancy_input::refusal::SearchRefusal;
 use fancy_input::work::Work;
 use fancy_splits::atoms::ToldAtom;
+use fancy_trail::layer::Kind;
+use fancy_trail::trail::Trail;
 
 /// Where the loop of an atomic group begins, a byte offset: past the item before it, if it has one. `None` where no byte tells that
 /// this item stands.

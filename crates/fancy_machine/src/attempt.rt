@@ -12,13 +12,11 @@ ghost use Rattle.fancy_meaning.specs.Context.{State};
 ghost use Rattle.fancy_splits.specs.Once.{splits_once};
 
 use crate::atoms::pass_atom;
-use crate::best::Best;
 use crate::choice::choose;
 use crate::denials::{pass_denial, sight_at};
-use crate::runs::pass;
+use crate::runs::{pass, pass_over};
 use crate::seen::Seen;
 use crate::step::step;
-use crate::trail::Trail;
 use fancy_code::code::Code;
 use fancy_code::step::Next;
 use fancy_input::input::Request;
@@ -28,6 +26,8 @@ use fancy_input::work::Work;
 use fancy_meaning::options::{SearchOptions, is_match_boundary};
 use fancy_meaning::reading::SuppressedEnds;
 use fancy_splits::splits::{Splits, ToldPart};
+use fancy_trail::best::Best;
+use fancy_trail::trail::Trail;
 
 /// The attempts of one search: the code that they follow, the haystack, and what they accept there.
 #[derive(Drop)]
@@ -58,10 +58,11 @@ fn continues_from(continues: bool, overrides: bool, request: Request) -> Option<
 
 impl<'a> Attempt<'a> {
     ghost use Rattle.fancy_machine.specs.Asked.{Serves};
-    ghost use Rattle.fancy_machine.specs.Attempt.{KnowsSeen, accepts, code_in, state_if_found, IsFull, TurnsTo, PassesBack, GoesBack, outcome_from, returns_from, marks_from};
+    ghost use Rattle.fancy_machine.specs.Attempt.{KnowsSeen, accepts, code_in, IsFull, TurnsTo, PassesBack, GoesBack, outcome_from, returns_from, marks_from};
+    ghost use Rattle.fancy_trail.specs.Best.{state_if_found};
     ghost use Rattle.fancy_machine.specs.Parts.{IsReady, GoesOver, TakesStep, HeedsLimits, CountsGoing, WentOn, TakesBranches, KeepsCounts};
     ghost use Rattle.fancy_machine.specs.Units.{CountsBack, CountsUnits};
-    ghost use Rattle.fancy_machine.specs.Machine.{after};
+    ghost use Rattle.fancy_trail.specs.Left.{after};
 
     /// The attempts of a search, in which `\G` is on or off.
     pub(crate) fn new(
@@ -225,7 +226,7 @@ impl<'a> Attempt<'a> {
         if !trail.has_run() {
             return Ok(());
         }
-        let passed = trail.pass_over(self);
+        let passed = pass_over(self, trail);
         self.count_returns(passed, limit, work)
     }
 

@@ -5,20 +5,21 @@ ghost use Rattle.fancy_code.specs.Code.{instrs_of};
 ghost use Rattle.fancy_meaning.specs.Context.{State};
 ghost use Rattle.fancy_input.specs.Work.{returns_of};
 ghost use Rattle.fancy_splits.specs.Splits.{IsToldChoice, ways_in};
-ghost use Rattle.fancy_machine.specs.Choices.{IsTaken, saved_ways};
+ghost use Rattle.fancy_machine.specs.Choices.{IsTaken};
+ghost use Rattle.fancy_trail.specs.Ways.{saved_ways};
 ghost use Rattle.fancy_machine.specs.declared.attempt.Attempt.{Attempt as AttemptIs};
-ghost use Rattle.fancy_machine.specs.Machine.{within_at};
-ghost use Rattle.fancy_machine.specs.Moves.{GoesOn, SavesBranches};
+ghost use Rattle.fancy_trail.specs.Ways.{within_at};
+ghost use Rattle.fancy_trail.specs.Moves.{GoesOn, SavesBranches};
 ghost use Rattle.fancy_machine.specs.Parts.{CountsGoing, FollowsIfOk, FollowsInMemory, WentOn};
 
 use crate::attempt::Attempt;
-use crate::layer::Kind;
-use crate::trail::Trail;
 use fancy_code::code::Instr;
 use fancy_code::step::Next;
 use fancy_input::refusal::SearchRefusal;
 use fancy_input::work::Work;
 use fancy_splits::choices::{Onward, Passage, SavedWays, ToldChoice};
+use fancy_trail::layer::Kind;
+use fancy_trail::trail::Trail;
 
 /// Saves the second of two ways, and goes on by the first.
 pub(crate) fn split(trail: &mut Trail, first: usize, second: usize) -> Result<Next, SearchRefusal>

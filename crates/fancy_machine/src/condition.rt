@@ -5,15 +5,15 @@ ghost use Rattle.fancy_input.specs.LastLines.{KnowsLastLines};
 ghost use Rattle.fancy_meaning.specs.Context.{continues};
 ghost use Rattle.fancy_machine.specs.Attempt.{attempt_context};
 ghost use Rattle.fancy_machine.specs.Machine.{WentIf};
-ghost use Rattle.fancy_machine.specs.Moves.{ChangesWay};
+ghost use Rattle.fancy_trail.specs.Moves.{ChangesWay};
 ghost use Rattle.fancy_machine.specs.Parts.{Follows};
 
 use crate::attempt::Attempt;
-use crate::trail::Trail;
 use fancy_code::code::Instr;
 use fancy_code::step::Next;
 use fancy_input::last_lines::LastLines;
 use fancy_meaning::reading::holds_at;
+use fancy_trail::trail::Trail;
 use fancy_tree::tree::Assertion;
 
 /// Goes on at another instruction, if a test holds.

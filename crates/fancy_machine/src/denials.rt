@@ -9,10 +9,10 @@ ghost use Rattle.fancy_machine.specs.Denials.{IsSeen, as_next};
 ghost use Rattle.fancy_machine.specs.Parts.{CountsGoing, WentOn};
 
 use crate::attempt::Attempt;
-use crate::trail::Trail;
 use fancy_input::refusal::SearchRefusal;
 use fancy_input::work::Work;
 use fancy_splits::denials::{Sight, ToldDenial};
+use fancy_trail::trail::Trail;
 
 /// The byte that a look-around at a place sees: the one before it where it looks behind, and else the one there.
 fn byte_seen(behind: bool, haystack: &[u8], place: usize) -> Option<u8>

@@ -5,15 +5,15 @@ ghost use Rattle.fancy_code.specs.Instructions.{edges_in};
 ghost use Rattle.fancy_meaning.specs.Context.{past_item};
 ghost use Rattle.fancy_machine.specs.Attempt.{attempt_context};
 ghost use Rattle.fancy_machine.specs.Machine.{MovedTo, RecalledTo};
-ghost use Rattle.fancy_machine.specs.Moves.{ChangesWay};
+ghost use Rattle.fancy_trail.specs.Moves.{ChangesWay};
 ghost use Rattle.fancy_machine.specs.Parts.{Follows};
 
 use crate::attempt::Attempt;
 use crate::texts::past_span;
-use crate::trail::Trail;
 use crate::units::units_back;
 use fancy_code::code::Instr;
 use fancy_code::step::{Next, past_character, past_member, past_raw_byte};
+use fancy_trail::trail::Trail;
 use fancy_tree::char_set::CharSet;
 
 /// Goes on at a place, if there is one by the limit.

@@ -7,19 +7,17 @@ ghost use Rattle.fancy_input.specs.Work.{returns_of};
 ghost use Rattle.fancy_splits.specs.declared.splits.ToldSplit.{ToldSplit};
 ghost use Rattle.fancy_splits.specs.declared.splits.Splits.{Splits};
 ghost use Rattle.fancy_splits.specs.Splits.{AreApart, IsNoted};
-ghost use Rattle.fancy_machine.specs.Attempt.{DiesAt};
-ghost use Rattle.fancy_machine.specs.Layers.{earlier};
+ghost use Rattle.fancy_machine.specs.Attempt.{DiesAt, DieFirst};
 ghost use Rattle.fancy_machine.specs.Runs.{HasItems, IsStuck, Lacks, DieFrom, KnowsRun, IsPartOf, IsRun};
 ghost use Rattle.fancy_machine.specs.Parts.{StandsAt, GoesOver, CountsGoing, WentOn};
 ghost use Rattle.fancy_machine.specs.Units.{CountsUnits};
 
 use crate::attempt::Attempt;
-use crate::layer::{Kind, Layer, earlier};
-use crate::trail::Trail;
 use fancy_code::step::Next;
 use fancy_input::refusal::SearchRefusal;
 use fancy_input::work::Work;
 use fancy_splits::splits::ToldSplit;
+use fancy_trail::trail::{SavedRun, Trail};
 
 /// How many items of a loop stand one after another from a place on, each of them one byte, up to an end.
 fn run_len(split: &ToldSplit, haystack: &[u8], place: usize, end: usize) -> usize
@@ -273,24 +271,38 @@ pub(crate) fn pass(
     Ok(Next::On)
 }
 
-/// At how many places of a layer of branches, those that are taken first, bytes tell that the way dies at once.
-pub(crate) fn places_dead(attempt: &Attempt, layer: Layer) -> usize
-    requires { earlier layer < usize.MAX }
-    ensures few { result ≤ earlier layer + 1 }
-    ensures branches { 0 < result → layer.kind ≡ Kind.Branch }
-    ensures dead { (k : ℕ) → k < result → DiesAt attempt.now layer.at (layer.place - k) }
+/// At how many places of saved branches, those that are taken first, bytes tell that the way dies at once.
+fn places_dead(attempt: &Attempt, run: SavedRun) -> usize
+    requires { run.first ≤ run.last }
+    ensures few { result ≤ run.last - run.first + 1 }
+    ensures dead { (k : ℕ) → k < result → DiesAt attempt.now run.at (run.last - k) }
 {
-    let Some(split) = attempt.splits.at(layer.by) else {
+    let Some(split) = attempt.splits.at(run.by) else {
         return 0;
     };
-    if layer.kind != Kind::Branch || split.second != layer.at {
+    if split.second != run.at {
         return 0;
     }
-    let earlier = earlier(layer);
-    'places: for past in 0..earlier + 1 {
-        if may_leave(split, attempt.haystack, layer.place - past) {
+    let earlier = run.last - run.first;
+    'places: for past in 0..earlier {
+        if may_leave(split, attempt.haystack, run.last - past) {
             return past;
         }
     }
+    if may_leave(split, attempt.haystack, run.first) {
+        return earlier;
+    }
     earlier + 1
+}
+
+/// Passes over branches that were saved last, at which bytes tell that the way dies at once: how many they are.
+#[inline(never)]
+pub(crate) fn pass_over(attempt: &Attempt, trail: &mut Trail) -> usize
+    ensures passed { DieFirst attempt.now result trail.old.frames trail.new.frames }
+    ensures most { trail.new.most ≡ trail.old.most }
+{
+    match trail.last_run() {
+        Some(run) => trail.drop_last(places_dead(attempt, run)),
+        None => 0,
+    }
 }

@@ -13,16 +13,14 @@ ghost use Rattle.fancy_splits.specs.Front.{IsFront};
 ghost use Rattle.fancy_machine.specs.Asked.{Serves, Asks, IsAsked, Answers, branches_allowed, found_by, groups_held, lines_held, seen_held};
 ghost use Rattle.fancy_machine.specs.Attempt.{KnowsSeen};
 ghost use Rattle.fancy_machine.specs.Front.{ArePriced, GoesPast, returns_ahead};
-ghost use Rattle.fancy_machine.specs.Log.{writes_allowed};
+ghost use Rattle.fancy_trail.specs.Log.{writes_allowed};
 ghost use Rattle.fancy_machine.specs.Parts.{IsReady, HeedsLimits, KeepsCounts};
 
 pub use crate::asked::Asked;
 use crate::attempt::Attempt;
-use crate::best::Best;
 use crate::front::{positions_to_pass, returns_over};
 use crate::runs::LastRun;
 use crate::seen::Seen;
-use crate::trail::Trail;
 use fancy_code::code::Code;
 use fancy_code::found::Found;
 use fancy_input::last_lines::LastLines;
@@ -35,6 +33,8 @@ use fancy_prefilter::candidates::next_candidate;
 use fancy_prices::entries::{Entries, Priced};
 use fancy_prices::price::Price;
 use fancy_splits::front::Front;
+use fancy_trail::best::Best;
+use fancy_trail::trail::Trail;
 use std::alloc::Global;
 
 /// What searches work in, reused from one to the next, with the groups of the last match.

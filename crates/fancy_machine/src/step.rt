@@ -12,12 +12,12 @@ use crate::choice::{begin_atom, begin_condition, begin_denial, begin_look, split
 use crate::condition::{assert_at, test_continued, test_taken};
 use crate::read::{go_back, read_character, read_member, read_raw_byte, recall};
 use crate::texts::text_len;
-use crate::trail::Trail;
 use fancy_code::code::Instr;
 use fancy_code::step::Next;
 use fancy_input::last_lines::LastLines;
 use fancy_input::refusal::SearchRefusal;
 use fancy_input::work::Work;
+use fancy_trail::trail::Trail;
 
 /// The match starts at the place.
 fn keep(trail: &mut Trail, next: usize) -> Next

@@ -2,8 +2,8 @@ use Rattle.std.proofs.Common.{◌+◌, ◌≤◌, ◌∷◌, ◌∙◌, ℕ, Lis
 use Rattle.fancy_input.specs.declared.refusal.SearchRefusal.TheVariants.{Choices}
 use Rattle.fancy_machine.specs.declared.atoms.Whole.{Whole}
 use Rattle.fancy_machine.specs.Atoms.{ReadsAll}
-use Rattle.fancy_machine.specs.Frames.{Atom, Frame, Spot, Within, saved}
-use Rattle.fancy_machine.specs.Machine.{at_place}
+use Rattle.fancy_trail.specs.Frames.{Atom, Frame, Spot, Within, saved}
+use Rattle.fancy_trail.specs.Ways.{at_place}
 use Rattle.fancy_machine.proofs.AtomLemmas.{lays, lays_later, goes_out, returns_out, choices_out}
 use Rattle.fancy_machine.proofs.WentLemmas.{takes_none, went_refused}
 use Rattle.fancy_machine.proofs.WorkLemmas.{returns_of_step, returns_same}

@@ -1,5 +1,5 @@
 use Rattle.std.proofs.Common.{ℕ, ◌∙◌, ◌+◌, Err, ap, arith, refl}
-use Rattle.fancy_machine.specs.Machine.{at_place}
+use Rattle.fancy_trail.specs.Ways.{at_place}
 use Rattle.fancy_machine.proofs.ChoiceLemmas.{all_die, goes_past, reads_past, saves_one, one_ahead, choices_ahead, returns_ahead}
 use Rattle.fancy_machine.proofs.WentLemmas.{takes_none, went_refused}
 use Rattle.fancy_machine.proofs.WorkLemmas.{returns_of_step}

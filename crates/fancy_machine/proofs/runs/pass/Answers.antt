@@ -1,11 +1,11 @@
 use Rattle.std.proofs.Common.{◌≡◌, Option, Some, None, true≢false, true, false, Bool, not, sym, ◌∙◌, ◌-◌, ◌+◌, ◌≤◌, ℕ, Err, ap, arith, refl, subst}
 use Rattle.std.specs.Prelude.{if◌then◌else◌, is_some}
 use Rattle.fancy_input.specs.declared.refusal.SearchRefusal.TheVariants.{Choices}
-use Rattle.fancy_machine.specs.Frames.{saved}
+use Rattle.fancy_trail.specs.Frames.{saved}
 use Rattle.fancy_machine.specs.Runs.{HasItems}
 use Rattle.fancy_machine.proofs.WentLemmas.{takes_none, went_refused}
 use Rattle.fancy_machine.proofs.WorkLemmas.{returns_same}
-use Rattle.fancy_machine.proofs.CloseLemmas.{alone_items}
+use Rattle.fancy_trail.proofs.ItemLemmas.{alone_items}
 use Rattle.fancy_machine.proofs.LoopLemmas.{reads_on, many_choices, choices_stuck, goes_back, returns_back, is_dead, returns_dead}
 use Rattle.fancy_machine.proofs.runs.pass.Goals as goal
 

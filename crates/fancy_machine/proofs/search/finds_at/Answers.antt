@@ -1,12 +1,12 @@
-use Rattle.std.proofs.Common.{◌≡◌, ℕ, ◌∙◌, Bool, true, false, replicate, refl, sym, ap, arith}
+use Rattle.std.proofs.Common.{◌≡◌, ℕ, ◌∙◌, Bool, true, false, replicate, sym, ap, arith}
 use Rattle.fancy_meaning.specs.Events.{returns_in}
 use Rattle.fancy_meaning.specs.Search.{Query, answer_at, attempt}
 use Rattle.fancy_code.specs.Queries.{answer_with}
 use Rattle.fancy_code.specs.Thread.{empty_slot}
 use Rattle.fancy_machine.specs.declared.search.Cache.{Cache}
 use Rattle.fancy_machine.specs.Asked.{found_if, groups_held}
-use Rattle.fancy_machine.specs.Attempt.{state_if_found}
-use Rattle.fancy_machine.specs.Layers.{spot_of}
+use Rattle.fancy_trail.specs.Best.{state_if_found}
+use Rattle.fancy_trail.specs.Layers.{spot_of}
 use Rattle.fancy_machine.proofs.MachineSearch.{admits, admits_is, begun_from, nothing_admitted, nothing_here, taken_here, missed_here}
 use Rattle.fancy_machine.proofs.AnswerLemmas.{keeps_none, limits_none, answers_ok, answers_by}
 use Rattle.fancy_machine.proofs.search.finds_at.Goals as goal

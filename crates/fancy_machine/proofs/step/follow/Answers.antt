@@ -6,7 +6,6 @@ use Rattle.fancy_input.specs.declared.refusal.SearchRefusal.TheVariants.{Memory,
 use Rattle.fancy_code.specs.declared.code.Code.{Code}
 use Rattle.fancy_code.specs.declared.code.Instr.{Instr}
 use Rattle.fancy_code.specs.declared.step.Next.{Next}
-use Rattle.fancy_code.specs.Instructions as i
 use Rattle.fancy_code.specs.Code.{instrs_of, instr_in, set_edges}
 use Rattle.fancy_meaning.specs.Context.{past_item}
 use Rattle.fancy_code.specs.Run.{Raw, Stop, instr_at}
@@ -14,11 +13,12 @@ use Rattle.fancy_code.proofs.InstructionLemmas.{length-instrs_of}
 use Rattle.fancy_code.proofs.RunMore.{past_end}
 use Rattle.fancy_machine.specs.declared.attempt.Attempt.{Attempt}
 use Rattle.fancy_machine.specs.Attempt.{attempt_context, code_in, StepsTo}
-use Rattle.fancy_machine.specs.Frames.{Held}
-use Rattle.fancy_machine.specs.Machine.{IsStep}
+use Rattle.fancy_trail.specs.Frames.{Held}
+use Rattle.fancy_trail.specs.Left.{IsStep}
 use Rattle.fancy_machine.specs.Parts.{Follows, FollowsIfOk, FollowsInMemory, FollowsNext}
 use Rattle.fancy_machine.proofs.MachineSteps.{stopped, failed, read_by}
 use Rattle.fancy_machine.proofs.RefusalLemmas.{refused_alone}
+use Rattle.fancy_code.specs.Instructions as i
 use Rattle.fancy_machine.proofs.step.follow.Goals as goal
 
 -- the instruction that is followed is j

@@ -2,7 +2,8 @@ use Rattle.std.proofs.Common.{◌≡◌, ◌+◌, ◌≤◌}
 use Rattle.fancy_input.specs.Work.{steps_of, returns_of, units_of, IsWithin}
 use Rattle.fancy_machine.specs.Attempt.{KnowsSeen, accepts, code_in, outcome_from, returns_from, marks_from}
 use Rattle.fancy_code.specs.Thread.{size_of}
-use Rattle.fancy_machine.specs.Machine.{Searching, left}
+use Rattle.fancy_machine.specs.Machine.{Searching}
+use Rattle.fancy_trail.specs.Left.{left}
 use Rattle.fancy_machine.proofs.attempt.Attempt.run.Given as goal
 
 abbrev pub invariant-steps : goal.invariant-steps

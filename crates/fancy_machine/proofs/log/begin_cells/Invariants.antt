@@ -1,6 +1,0 @@
-use Rattle.std.proofs.Common.{◌≡◌, replicate}
-use Rattle.fancy_machine.specs.Log.{empty_cell}
-use Rattle.fancy_machine.proofs.log.begin_cells.Given as goal
-
-abbrev pub invariant-cells : goal.invariant-cells
-invariant-cells l = l.cells.items ≡ replicate l.counter empty_cell

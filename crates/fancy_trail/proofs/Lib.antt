@@ -1,0 +1,10 @@
+pub mod Closing
+pub mod StopLemmas
+pub mod ItemLemmas
+pub mod LogLemmas
+pub mod LayerLemmas
+pub mod WriteLemmas
+pub mod RegionLemmas
+pub mod DropLemmas
+pub mod RoomLemmas
+pub mod TrailStops
