@@ -11,6 +11,7 @@ pub mod WentLemmas
 pub mod AnswerLemmas
 pub mod PassLemmas
 pub mod CloseLemmas
+pub mod ItemsLemmas
 pub mod AtomLemmas
 pub mod LoopLemmas
 pub mod ChoiceLemmas

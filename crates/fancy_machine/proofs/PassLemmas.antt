@@ -4,7 +4,7 @@ use Rattle.std.specs.Prelude.{slice_get}
 use Rattle.std.proofs.lemmas.Option.{same_Some, slice_get-get_or}
 use Rattle.std.proofs.lemmas.Bool.{cases_eq}
 use Rattle.fancy_bytes.specs.Sets.{member}
-use Rattle.fancy_meaning.specs.Context.{Context, State}
+use Rattle.fancy_meaning.specs.Context.{Context, State, moved_to}
 use Rattle.fancy_code.specs.Instructions.{Instruction}
 use Rattle.fancy_meaning.specs.Events.{any}
 use Rattle.fancy_code.specs.Run.{Raw, Note, Stop, choice_opened, returned, fetched, Go, before, join, erase, instr_at, run}
@@ -73,16 +73,21 @@ module _ (cx : Context) (code : List Instruction) (deep : ℕ) where
       (v.0, v.1, passed_then (passed_fetch w u.0 u.2) (passed_mark u.0 v.0 v.2) (omega arith) (omega arith))
 
   -- an item is read
+  pub at_item : (y : Spot) (gs : List Frame) (w : List Raw) (p back : ℕ) → left go y gs ≡ Some w
+      → run cx y.limit code (suc deep) y.at y.state y.starts ≡ before (Note fetched) (run cx y.limit code deep back (moved_to y.state p) y.starts)
+      → (rest : List Raw) × (left go (at_place back p y) gs ≡ Some rest) × Passed 0 0 w rest
+  at_item y gs w p back known reads =
+      let k = finish_known go gs (after go y) w known in
+      let z = at_place back p y in
+      let more = run_more cx y.limit code deep y.at y.state y.starts k.0 k.1 in
+      let is : after go y ≡ before (Note fetched) (after go z) = k.1 ∙ sym more ∙ reads in
+      let v = before_some (Note fetched) _ w (sym (ap (finish go gs) is ∙ finish_note go gs fetched (after go z)) ∙ known) in
+      (v.0, v.1, passed_fetch w v.0 v.2)
+
   pub at_byte : (y : Spot) (gs : List Frame) (w : List Raw) (b back : ℕ) → left go y gs ≡ Some w → ReadsByte code cx.meaning b y.at back
       → slice_get cx.haystack y.state.place ≡ Some b → y.state.place < y.limit
       → (rest : List Raw) × (left go (at_place back (y.state.place + 1) y) gs ≡ Some rest) × Passed 0 0 w rest
-  at_byte y gs w b back known reads here lt =
-      let k = finish_known go gs (after go y) w known in
-      let z = at_place back (y.state.place + 1) y in
-      let more = run_more cx y.limit code deep y.at y.state y.starts k.0 k.1 in
-      let is : after go y ≡ before (Note fetched) (after go z) = k.1 ∙ sym more ∙ reads cx y.limit deep y.state y.starts refl here lt in
-      let v = before_some (Note fetched) _ w (sym (ap (finish go gs) is ∙ finish_note go gs fetched (after go z)) ∙ known) in
-      (v.0, v.1, passed_fetch w v.0 v.2)
+  at_byte y gs w b back known reads here lt = at_item y gs w (y.state.place + 1) back known (reads cx y.limit deep y.state y.starts refl here lt)
 
   -- what costs so much ends, and what was saved follows
   costly_back : (m r : ℕ) (u : List Raw) → MissesIn any m r u → (fs : List Frame) (o : Option (List Raw)) (w : List Raw) → finish go fs (join (Some u) o) ≡ Some w

@@ -55,9 +55,7 @@ returns-in_err-count_returns-clause-went c best = went_refused c.from_residual-i
 pub returns-clause-went : goal.returns-clause-went
 returns-clause-went c best = record {
   advanced = λ deep goal total choices r s.
-      let here = ap (λ (x : Spot). x.state.place) c.go_to.ensures.now in
-      let there = ap (λ (p : ℕ). at_place c.in-Some-2.whole.next (p + c.in-Some-2.whole.count) c.go_to.new.self.now) (sym here) in
-      goes_out c.args.attempt.now c.args.atom.now c.args.trail.now c.requires.told best deep goal total choices r s c.in-Some.from c.in-Some.ensures c.go_to.new.self.now c.go_to.ensures.now c.in-Some-2.whole (subst (λ (o : Option Whole). IfSome o (ReadsAll c.args.attempt.now c.go_to.new.self.now)) c.in-Some-2.is c.in_ok-whole.ensures.read) c.go_to-2.new.self (c.go_to-2.ensures.now ∙ there) (c.go_to-2.ensures.frames ∙ c.go_to.ensures.frames) _
+      goes_out c.args.attempt.now c.args.atom.now c.args.trail.now c.requires.told best deep goal total choices r s c.in-Some.from c.in-Some.ensures c.go_to.new.self.now c.go_to.ensures.now c.in-Some-2.whole (subst (λ (o : Option Whole). IfSome o (ReadsAll c.args.attempt.now c.go_to.new.self.now)) c.in-Some-2.is c.in_ok-whole.ensures.read) c.go_to-2.new.self c.go_to-2.ensures.now (c.go_to-2.ensures.frames ∙ c.go_to.ensures.frames) _
       (omega (arith, c.in_ok-count_returns.ensures.counted, (returns_same c.args.work.now c.count_step_within.new.self c.read_whole.new.work c.count_step_within.ensures c.read_whole.ensures.units.adds)));
   bounded = λ deep goal total choices s.
       let all = returns_out c.args.attempt.now c.args.atom.now c.args.trail.now c.requires.told best deep goal total choices _ s c.in-Some.from c.in-Some.ensures c.go_to.new.self.now c.go_to.ensures.now c.in-Some-2.whole (subst (λ (o : Option Whole). IfSome o (ReadsAll c.args.attempt.now c.go_to.new.self.now)) c.in-Some-2.is c.in_ok-whole.ensures.read) in
