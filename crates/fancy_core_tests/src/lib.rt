@@ -22,4 +22,6 @@ mod replacement;
 #[cfg(test)]
 mod templates;
 #[cfg(test)]
+mod units;
+#[cfg(test)]
 mod words;

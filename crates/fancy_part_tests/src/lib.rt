@@ -8,7 +8,7 @@ mod asking;
 #[cfg(test)]
 mod classes;
 #[cfg(test)]
-mod engines;
+mod code;
 #[cfg(test)]
 mod errors;
 #[cfg(test)]

@@ -1,26 +1,13 @@
-//! Parts of the engines that no public call shows by itself.
+//! The code of a pattern, which no public call shows by itself.
 
 use crate::asking::check;
 use fancy_code::compile::compile;
-use fancy_machine::units::units_back;
 use fancy_tree::tree::{Meaning, RepeatKind, Tree};
 
 #[test]
 #[tactic(auto, using(fancy_tree::proofs::PatternLemmas::pattern_equations), unfolding(fancy_tree::specs::Sizes::nodes))]
-fn parts_of_the_engines(rt: HostRuntime) {
-    // units stand before a place
-    let text = "aé".as_bytes();
-    check(
-        &rt,
-        units_back(text, Meaning::Unicode, 1, 3) == Some(1),
-        "one back",
-    );
-    check(
-        &rt,
-        units_back(text, Meaning::Unicode, 3, 3) == None,
-        "three back",
-    );
-    // a star shares its turn, as in `a+`
+fn a_star_shares_its_turn(rt: HostRuntime) {
+    // as in `a+`
     let alloc = rt.alloc();
     let tree = Tree::Repeat {
         low: 1,
