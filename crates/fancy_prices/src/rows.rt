@@ -1,13 +1,18 @@
 //! What attempts cost, by the byte at which they are made, for what stands before.
 
-ghost use Rattle.std.specs.Prelude.{◌≡◌, ℕ, ◌<◌, ◌≤◌, true, false, None, Some, IfOk, if◌then◌else◌, length, slice_get, slice_index, slice_index_or, vec_len};
+ghost use Rattle.std.specs.Prelude.{◌≡◌, ℕ, ◌<◌, ◌≤◌, true, false, Option, None, Some, IfOk, IfSome, if◌then◌else◌, length, slice_get, slice_index, slice_index_or, vec_len};
 ghost use Rattle.fancy_input.specs.Lines.{byte_before};
 ghost use Rattle.fancy_input.specs.Places.{is_continuation};
 ghost use Rattle.fancy_bytes.specs.Sets.{member};
+ghost use Rattle.fancy_code.specs.Code.{instrs_of};
+ghost use Rattle.fancy_code.specs.declared.code.Code.{Code as CodeIs};
+ghost use Rattle.fancy_prices.specs.declared.facts.Before.{Before as BeforeIs};
+ghost use Rattle.fancy_prices.specs.declared.facts.Ending.TheVariants.{Last};
+ghost use Rattle.fancy_prices.specs.Prices.{Dies, DiesBehind};
 ghost use Rattle.fancy_prices.specs.Rows.{AreWhole, IsCostlyIn, TellsByte, TellsRow, costs_nothing};
 
-use crate::facts::{Before, Facts};
-use crate::free::{price_of, tests_before};
+use crate::facts::{Before, Ending, Facts};
+use crate::free::{price_behind, price_of, tests_before};
 use crate::kinds::{Kind, kinds_of};
 use crate::price::Price;
 use fancy_bytes::byte_set::ByteSet;
@@ -78,16 +83,26 @@ pub(crate) fn are_whole(bytes: &ByteSet) -> bool
     true
 }
 
-/// What an attempt costs that is made at the byte, if it is told that it finds nothing. Of one within a character nothing is told but
-/// that it costs nothing, since in text none is made there.
-fn price_at(code: &Code, here: u8, before: Option<Before<'_>>) -> Option<Price>
-    ensures { TellsByte code.now before.entry here result }
+/// The price of an attempt that is made at the byte. Of one within a character nothing is told but that it costs nothing, since in text
+/// none is made there.
+fn told_at(here: u8, price: Price) -> Option<Price>
+    ensures { (code : CodeIs) (before : Option BeforeIs)
+        → Dies (instrs_of code) code.meaning (record { here = here; before = before })
+        price.marks price.returns code.start
+        → TellsByte code before here result }
 {
-    let price = price_of(code, code.start, Facts { here, before }, DEPTH)?;
     if is_continuation(here) {
         return price.if_nothing();
     }
     Some(price)
+}
+
+/// What an attempt costs that is made at the byte, if it is told that it finds nothing.
+fn price_at(code: &Code, here: u8, before: Option<Before<'_>>) -> Option<Price>
+    ensures { TellsByte code.now before.entry here result }
+{
+    let price = price_of(code, code.start, Facts { here, before }, DEPTH)?;
+    told_at(here, price)
 }
 
 /// The same for each byte, where what stands before is not told.
@@ -101,7 +116,19 @@ fn plain_prices(code: &Code) -> [Option<Price>; 256]
     row
 }
 
-/// The same where this stands before. It is asked only of bytes of which nothing is told without that.
+/// What an attempt costs that is made at the byte where this stands before. `behind` is what that tells alone.
+fn price_after(code: &Code, here: u8, before: Before<'_>, behind: Option<Price>) -> Option<Price>
+    requires { IfSome behind (λ p.
+        DiesBehind (instrs_of code.now) (Last before) p.marks p.returns code.now.start) }
+    ensures { TellsByte code.now (Some before.entry) here result }
+{
+    match behind {
+        Some(price) => told_at(here, price),
+        None => price_at(code, here, Some(before)),
+    }
+}
+
+/// What attempts cost at each byte where this stands before. It is asked only of bytes of which nothing is told without that.
 fn prices_after(
     code: &Code,
     plain: &[Option<Price>; 256],
@@ -110,10 +137,11 @@ fn prices_after(
     requires { TellsRow code.now None plain.now }
     ensures { TellsRow code.now (Some before.entry) result }
 {
+    let behind = price_behind(code, Ending::Last(before), DEPTH);
     let mut row = *plain;
     for byte in 0..256u32 {
         if row[byte as usize].is_none() {
-            row[byte as usize] = price_at(code, byte as u8, Some(before));
+            row[byte as usize] = price_after(code, byte as u8, before, behind);
         }
     }
     row

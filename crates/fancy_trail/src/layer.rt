@@ -177,10 +177,7 @@ pub fn take_last(layers: &mut Vec<Layer>) -> Option<Layer>
     }
     let layer = layers[len - 1];
     if earlier(layer) > 0 {
-        layers[len - 1] = Layer {
-            place: layer.place - 1,
-            ..layer
-        };
+        layers[len - 1].place = layer.place - 1;
     } else {
         layers.pop();
     }

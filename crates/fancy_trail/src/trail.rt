@@ -548,10 +548,7 @@ impl Trail {
         let earlier = earlier(layer);
         if count <= earlier {
             self.branches -= count;
-            self.layers[len - 1] = Layer {
-                place: layer.place - count,
-                ..layer
-            };
+            self.layers[len - 1].place = layer.place - count;
             return count;
         }
         self.branches -= earlier + 1;

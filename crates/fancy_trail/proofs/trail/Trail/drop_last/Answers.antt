@@ -1,10 +1,12 @@
 use Rattle.std.proofs.Common.{◌≡◌, ◌+◌, ◌-◌, ◌<◌, ◌≤◌, ◌++◌, ℕ, suc, List, take, length, map, set, ◌∙◌, refl, sym, ap, subst, arith, rules}
+use Rattle.std.proofs.lemmas.List.{get_or_default}
 use Rattle.fancy_trail.specs.declared.layer.Kind.TheVariants as k
+use Rattle.fancy_trail.specs.declared.layer.Layer.{Layer}
 use Rattle.fancy_trail.specs.Frames.{Frame, Held}
 use Rattle.fancy_trail.specs.Layers.{frames_of, less_one, earlier}
 use Rattle.fancy_trail.specs.Log.{cell_slot}
 use Rattle.fancy_trail.specs.Ways.{SavedOn}
-use Rattle.fancy_trail.proofs.DropLemmas.{left_some, left_none, fits_left, drops_left, run_branches}
+use Rattle.fancy_trail.proofs.DropLemmas.{Fits, left_some, left_none, fits_left, drops_left, run_branches}
 use Rattle.fancy_trail.proofs.LayerLemmas.{last_set, took_rises}
 use Rattle.fancy_trail.proofs.trail.Trail.drop_last.Goals as goal
 
@@ -42,9 +44,11 @@ invariant_of-self c =
     let le : n ≤ earlier l = omega (arith, c.if-count-earlier.true, c.earlier-earlier.ensures) in
     let few : n ≤ earlier l + 1 = omega (arith, le) in
     let kind : l.kind ≡ k.Branch = search rules in
-    fits_left all l i n len c.index.ensures some few kind _ _ _ _ c.self.inside.log.items c.self.inside.cells.items c.self.invariant
+    let same : l ≡ c.index_mut.result.now = c.index.ensures ∙ get_or_default all i l c.index_mut.result.now (omega (arith, len)) ∙ sym c.index_mut.ensures.value in
+    subst (λ (x : Layer). Fits (c.self.inside.branches - n) c.self.inside.most l.region c.self.inside.written (set all i (record x { place = l.place - n })) c.undo.new.log.items c.undo.new.cells.items) same
+    (fits_left all l i n len c.index.ensures some few kind _ _ _ _ c.self.inside.log.items c.self.inside.cells.items c.self.invariant
     c.undo.new.log.items c.undo.new.cells.items c.undo.ensures.log c.undo.ensures.cells _
-    (left_some all l i n len c.index.ensures some few kind _ le refl)
+    (left_some all l i n len c.index.ensures some few kind _ le refl))
 
 pub invariant_of-self-2 : goal.invariant_of-self-2
 invariant_of-self-2 c =
@@ -73,10 +77,12 @@ returns-then-count-earlier-clause-dropped c =
     let le : n ≤ earlier l = omega (arith, c.if-count-earlier.true, c.earlier-earlier.ensures) in
     let few : n ≤ earlier l + 1 = omega (arith, le) in
     let kind : l.kind ≡ k.Branch = search rules in
-    subst (λ (fs : List Frame). SavedOn n fs (frames_of c.undo.new.log.items (map cell_slot c.undo.new.cells.items) (set all i (record l { place = l.place - n })))) (ap (λ (h : Held). h.frames) c.self.view_is)
+    let same : l ≡ c.index_mut.result.now = c.index.ensures ∙ get_or_default all i l c.index_mut.result.now (omega (arith, len)) ∙ sym c.index_mut.ensures.value in
+    subst (λ (x : Layer). SavedOn n c.args.self.now.frames (frames_of c.undo.new.log.items (map cell_slot c.undo.new.cells.items) (set all i (record x { place = l.place - n })))) same
+    (subst (λ (fs : List Frame). SavedOn n fs (frames_of c.undo.new.log.items (map cell_slot c.undo.new.cells.items) (set all i (record l { place = l.place - n })))) (ap (λ (h : Held). h.frames) c.self.view_is)
     (drops_left all l i n len c.index.ensures some few kind _ _ _ _ c.self.inside.log.items c.self.inside.cells.items c.self.invariant
     c.undo.new.log.items c.undo.new.cells.items c.undo.ensures.log c.undo.ensures.cells _
-    (left_some all l i n len c.index.ensures some few kind _ le refl))
+    (left_some all l i n len c.index.ensures some few kind _ le refl)))
 
 pub returns-clause-dropped : goal.returns-clause-dropped
 returns-clause-dropped c =
