@@ -20,7 +20,7 @@ use Rattle.fancy_trail.specs.Left.{after, finish, left}
 use Rattle.fancy_trail.specs.Ways.{SavedOn, at_instr, at_place, IsEndedByAny}
 use Rattle.fancy_trail.proofs.Closing.{before_some, finish_known, finish_note}
 use Rattle.fancy_machine.proofs.MachineSteps.{acts}
-use Rattle.fancy_machine.proofs.PassLemmas.{Passed, passed_fetch, passed_then, at_split, at_item, at_end, seeks_on, returns_to_come, choices_to_come}
+use Rattle.fancy_machine.proofs.PassLemmas.{Passed, passed_fetch, passed_then, at_split, at_item, at_end, goes_on, returns_to_come, choices_to_come}
 use Rattle.fancy_machine.proofs.CloseLemmas.{at_stop}
 use Rattle.fancy_machine.proofs.ItemsLemmas.{items_le}
 use Rattle.fancy_code.specs.Instructions as i
@@ -67,18 +67,6 @@ module _ (a : Attempt) (t : ToldAtom) (h : Held) (is : IsToldAtom (instrs_of a.c
   abbrev inner : List Frame
   inner = Within (Atom h.now.limit) ∷ h.frames
 
-  -- after so many marks and returns something else is left
-  goes_to : (m k : ℕ) (rest : List Raw) → Passed m k s.rest rest → length rest < length s.rest → (new : Held) → left (code_in a deep) new.now new.frames ≡ Some rest → saved new.frames ≤ saved h.frames + m
-      → (u : ℕ) → u ≡ k → Advanced a deep goal total choices (size_ahead a deep h) On new best (r + u)
-  goes_to m k rest passed less new known le u count =
-      let same : r + k ≡ r + u = omega (arith, count) in
-      let now = ap size_of known in
-      let old = ap size_of s.known in (
-        subst (λ (j : ℕ). Seeks a deep goal total choices new best j) same
-            (seeks_on a.options.now.longest (accepts a) goal total choices best r _ h.frames s m k _ new.frames rest known passed le),
-        omega (arith, now, old, less),
-      )
-
   begun : (rest : List Raw) × (left (code_in a deep) (at_instr t.body h.now) inner ≡ Some rest) × (s.rest ≡ Note fetched ∷ rest)
   begun = acts cx code deep h.now h.frames s.rest s.known (i.Enter t.body) is.enters
 
@@ -87,7 +75,7 @@ module _ (a : Attempt) (t : ToldAtom) (h : Held) (is : IsToldAtom (instrs_of a.c
   lays new now frames u none =
       let shorter = ap length begun.2 in
       let saves = ap saved frames in
-      goes_to 0 0 begun.0 (passed_fetch s.rest begun.0 begun.2) (omega (arith, shorter)) new (ap₂ (left (code_in a deep)) now frames ∙ begun.1) (omega (arith, saves)) u none
+      goes_on a h best deep goal total choices r s 0 0 begun.0 (passed_fetch s.rest begun.0 begun.2) (omega (arith, shorter)) u none new (ap₂ (left (code_in a deep)) now frames ∙ begun.1) (omega (arith, saves))
 
   module _ (p : ℕ) (comes : ComesTo a t h.now p) (y : Spot) (there : y ≡ at_place t.head p h.now) where
     abbrev AtLoop : Spot → Type 0
@@ -111,7 +99,7 @@ module _ (a : Attempt) (t : ToldAtom) (h : Held) (is : IsToldAtom (instrs_of a.c
     pub lays_later : (new : Held) → new.now ≡ y → new.frames ≡ inner → (u : ℕ) → u ≡ 0 → Advanced a deep goal total choices (size_ahead a deep h) On new best (r + u)
     lays_later new now frames u none =
         let saves = ap saved frames in
-        goes_to 0 0 at_loop.0 at_loop.2 at_loop.3 new (ap₂ (left (code_in a deep)) now frames ∙ at_loop.1) (omega (arith, saves)) u none
+        goes_on a h best deep goal total choices r s 0 0 at_loop.0 at_loop.2 at_loop.3 u none new (ap₂ (left (code_in a deep)) now frames ∙ at_loop.1) (omega (arith, saves))
 
     module _ (whole : Whole) (reads : ReadsAll a y whole) where
       abbrev l : ToldSplit
@@ -136,7 +124,7 @@ module _ (a : Attempt) (t : ToldAtom) (h : Held) (is : IsToldAtom (instrs_of a.c
       pub goes_out : (new : Held) → new.now ≡ end → new.frames ≡ h.frames → (u : ℕ) → u ≡ 1 → Advanced a deep goal total choices (size_ahead a deep h) On new best (r + u)
       goes_out new now frames u one =
           let saves = ap saved frames in
-          goes_to (whole.count + 1) 1 out.0 out.2 (omega (arith, out.2.shorter)) new (ap₂ (left (code_in a deep)) now frames ∙ out.1) (omega (arith, saves)) u one
+          goes_on a h best deep goal total choices r s (whole.count + 1) 1 out.0 out.2 (omega (arith, out.2.shorter)) u one new (ap₂ (left (code_in a deep)) now frames ∙ out.1) (omega (arith, saves))
 
       pub returns_out : r + 1 ≤ total
       returns_out = returns_to_come a.options.now.longest (accepts a) goal total choices best r _ h.frames s (whole.count + 1) 1 _ h.frames out.0 out.1 out.2

@@ -24,7 +24,7 @@ use Rattle.fancy_trail.specs.Left.{finish, left}
 use Rattle.fancy_machine.proofs.AtomLemmas.{at_close}
 use Rattle.fancy_machine.proofs.CloseLemmas.{at_stop}
 use Rattle.fancy_machine.proofs.MachineSteps.{acts}
-use Rattle.fancy_machine.proofs.PassLemmas.{Passed, passed_fetch, passed_none, passed_then, at_byte, at_split, at_last_end, over, seeks_on, fewer_on, returns_to_come, choices_to_come}
+use Rattle.fancy_machine.proofs.PassLemmas.{Passed, passed_fetch, passed_none, passed_then, at_byte, at_split, at_last_end, over, goes_on, dies_off, returns_to_come, choices_to_come}
 use mathlib.Core.HLevel.{is_prop→PathP}
 use Rattle.fancy_code.specs.Instructions as i
 
@@ -114,25 +114,6 @@ module _ (a : Attempt) (c : ToldChoice) (h : Held) (is : IsToldChoice (instrs_of
       (λ o. leads_out cx code deep b (ReadsByte code cx.meaning b) (h.now.state.place + 1) h.now here
       (λ at next reads fs w known. at_byte cx code deep (at_instr at h.now) fs w b next known reads here lt) o.0 m t h.now.at to ways o.1 h.frames s.rest s.known)
 
-  -- so many marks and returns later something else is left
-  module _ (m t : ℕ) (rest : List Raw) (passed : Passed m t s.rest rest) (some : 0 < m) (u : ℕ) (count : u ≡ t) where
-    same_returns : r + t ≡ r + u
-    same_returns = omega (arith, count)
-
-    goes_on : (new : Held) → left (code_in a deep) new.now new.frames ≡ Some rest → saved new.frames ≤ saved h.frames + m → Advanced a deep goal total choices (size_ahead a deep h) On new best (r + u)
-    goes_on new known le = (
-      subst (λ (i : ℕ). Seeks a deep goal total choices new best i) same_returns (seeks_on a.options.now.longest (accepts a) goal total choices best r _ h.frames s m t _ new.frames rest known passed le),
-      fewer_on a.options.now.longest (accepts a) goal total choices best r _ h.frames s m t _ new.frames rest known passed some,
-    )
-
-    dies_off : (new : Held) → finish (code_in a deep) new.frames (Some []) ≡ Some rest → saved new.frames ≤ saved h.frames + m
-        → Advanced a deep goal total choices (size_ahead a deep h) Dead new best (r + u)
-    dies_off new known le = (
-      subst (λ (i : ℕ). SeeksBack a deep goal total choices new best i) same_returns
-          (seeks_on a.options.now.longest (accepts a) goal total choices best r _ h.frames s m t _ new.frames rest known passed le),
-      fewer_on a.options.now.longest (accepts a) goal total choices best r _ h.frames s m t _ new.frames rest known passed some,
-    )
-
   -- the choice by itself
   own : Led 0 0 (c.second ∷ []) (Goes c.first)
   own = at_split cx code deep h.now h.frames s.rest c.first c.second s.known is.splits
@@ -141,7 +122,7 @@ module _ (a : Attempt) (c : ToldChoice) (h : Held) (is : IsToldChoice (instrs_of
       → Advanced a deep goal total choices (size_ahead a deep h) On new best (r + u)
   saves_one new now frames u count =
       let saves = ap saved frames in
-      goes_on 1 0 own.0 own.2 (omega arith) u count new (ap₂ (left (code_in a deep)) now frames ∙ own.1) (omega (arith, saves))
+      goes_on a h best deep goal total choices r s 1 0 own.0 own.2 (omega (arith, own.2.shorter)) u count new (ap₂ (left (code_in a deep)) now frames ∙ own.1) (omega (arith, saves))
 
   pub one_ahead : saved h.frames + 1 ≤ choices
   one_ahead =
@@ -170,21 +151,21 @@ module _ (a : Attempt) (c : ToldChoice) (h : Held) (is : IsToldChoice (instrs_of
         let l = subst (Led marks returns ways) ends led in
         let none = ap length l.0 in
         let saves = ap saved frames in
-        dies_off marks returns l.1.0 l.1.2 (omega (arith, some, none)) u count new (ap (λ (fs : List Frame). finish (code_in a deep) fs (Some [])) frames ∙ l.1.1) (omega (arith, saves))
+        dies_off a h best deep goal total choices r s marks returns l.1.0 l.1.2 (omega (arith, some, none, l.1.2.shorter)) u count new (ap (λ (fs : List Frame). finish (code_in a deep) fs (Some [])) frames ∙ l.1.1) (omega (arith, saves))
 
     pub goes_past : (to : ℕ) → p.onward ≡ Goes to → (new : Held) → new.now ≡ at_instr to h.now → new.frames ≡ saved_ways ways h.now h.frames → (u : ℕ) → u ≡ returns
         → Advanced a deep goal total choices (size_ahead a deep h) On new best (r + u)
     goes_past to goes new now frames u count =
         let l = subst (Led marks returns ways) goes led in
         let saves = ap saved frames in
-        goes_on (marks + length ways) returns l.0 l.2 some u count new (ap₂ (left (code_in a deep)) now frames ∙ l.1) (omega (arith, saves, saved_more ways h.now h.frames))
+        goes_on a h best deep goal total choices r s (marks + length ways) returns l.0 l.2 (omega (arith, some, l.2.shorter)) u count new (ap₂ (left (code_in a deep)) now frames ∙ l.1) (omega (arith, saves, saved_more ways h.now h.frames))
 
     pub reads_past : (to : ℕ) → p.onward ≡ Reads to → (new : Held) → new.now ≡ at_place to (h.now.state.place + 1) h.now → new.frames ≡ saved_ways ways h.now h.frames → (u : ℕ) → u ≡ returns
         → Advanced a deep goal total choices (size_ahead a deep h) On new best (r + u)
     reads_past to reads new now frames u count =
         let l = subst (Led marks returns ways) reads led in
         let saves = ap saved frames in
-        goes_on (marks + length ways) returns l.0 l.2 some u count new (ap₂ (left (code_in a deep)) now frames ∙ l.1) (omega (arith, saves, saved_more ways h.now h.frames))
+        goes_on a h best deep goal total choices r s (marks + length ways) returns l.0 l.2 (omega (arith, some, l.2.shorter)) u count new (ap₂ (left (code_in a deep)) now frames ∙ l.1) (omega (arith, saves, saved_more ways h.now h.frames))
 
     -- no attempt takes fewer returns, or has fewer choices
     pub returns_ahead : r + returns ≤ total

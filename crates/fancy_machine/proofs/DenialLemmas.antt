@@ -22,7 +22,7 @@ use Rattle.fancy_trail.specs.Left.{after, finish, left}
 use Rattle.fancy_trail.specs.Ways.{at_instr}
 use Rattle.fancy_trail.proofs.Closing.{before_some, fenced_some, finish_known, finish_note, take_branch}
 use Rattle.fancy_machine.proofs.MachineSteps.{acts}
-use Rattle.fancy_machine.proofs.PassLemmas.{Passed, passed_none, passed_then, passed_fetch, passed_mark, passed_return, seeks_on, fewer_on, returns_to_come}
+use Rattle.fancy_machine.proofs.PassLemmas.{Passed, passed_none, passed_then, passed_fetch, passed_mark, passed_return, goes_on, dies_off, returns_to_come}
 use Rattle.fancy_code.specs.Instructions as i
 
 -- what is left of a region whose body is not found, and of one whose body is, where nothing follows that
@@ -109,11 +109,7 @@ module _ (a : Attempt) (l : ToldDenial) (h : Held) (is : IsToldDenial (instrs_of
       let passed : Passed 1 0 s.rest end.0 = passed_then begun.2 end.2 (omega arith) (omega arith) in
       let known = ap (λ (fs : List Frame). finish (code_in a deep) fs (Some [])) frames ∙ end.1 in
       let saves = ap saved frames in
-      let same : r + 0 ≡ r + u = omega (arith, none) in (
-        subst (λ (j : ℕ). SeeksBack a deep goal total choices new best j) same
-            (seeks_on a.options.now.longest (accepts a) goal total choices best r _ h.frames s 1 0 _ new.frames end.0 known passed (omega (arith, saves))),
-        fewer_on a.options.now.longest (accepts a) goal total choices best r _ h.frames s 1 0 _ new.frames end.0 known passed (omega arith),
-      )
+      dies_off a h best deep goal total choices r s 1 0 end.0 passed (omega (arith, passed.shorter)) u none new known (omega (arith, saves))
 
   -- it finds nothing, and the way goes on
   module _ (c : Price) (seen : Tells a l h.now.state.place (MissesBy c)) where
@@ -132,11 +128,7 @@ module _ (a : Attempt) (l : ToldDenial) (h : Held) (is : IsToldDenial (instrs_of
     missed_on new now frames u count =
         let known = ap₂ (left (code_in a deep)) now frames ∙ past.1 in
         let saves = ap saved frames in
-        let same : r + (c.returns + 1) ≡ r + u = omega (arith, count) in (
-          subst (λ (j : ℕ). Seeks a deep goal total choices new best j) same
-              (seeks_on a.options.now.longest (accepts a) goal total choices best r _ h.frames s (c.marks + 1) (c.returns + 1) _ new.frames past.0 known past.2 (omega (arith, saves))),
-          fewer_on a.options.now.longest (accepts a) goal total choices best r _ h.frames s (c.marks + 1) (c.returns + 1) _ new.frames past.0 known past.2 (omega arith),
-        )
+        goes_on a h best deep goal total choices r s (c.marks + 1) (c.returns + 1) past.0 past.2 (omega (arith, past.2.shorter)) u count new known (omega (arith, saves))
 
     pub returns_missed : r + (c.returns + 1) ≤ total
     returns_missed = returns_to_come a.options.now.longest (accepts a) goal total choices best r _ h.frames s (c.marks + 1) (c.returns + 1) _ h.frames past.0 past.1 past.2

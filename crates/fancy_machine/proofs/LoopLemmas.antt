@@ -15,7 +15,7 @@ use Rattle.fancy_trail.specs.Frames.{Frame, Held, Spot, saved}
 use Rattle.fancy_trail.specs.Left.{finish, left}
 use Rattle.fancy_trail.specs.Ways.{at_instr, at_place, saved_run, past_items}
 use Rattle.fancy_machine.specs.Runs.{DieFrom, IsRun}
-use Rattle.fancy_machine.proofs.PassLemmas.{Passed, passed_none, passed_then, read_on, gone_back, gone_dead, saved_by_run, seeks_on, fewer_on, returns_to_come, choices_to_come}
+use Rattle.fancy_machine.proofs.PassLemmas.{Passed, passed_none, passed_then, read_on, gone_back, gone_dead, saved_by_run, goes_on, dies_off, returns_to_come, choices_to_come}
 use Rattle.fancy_trail.proofs.ItemLemmas.{alone_items}
 use Rattle.fancy_machine.proofs.CloseLemmas.{closed}
 
@@ -34,26 +34,6 @@ module _ (a : Attempt) (l : ToldSplit) (h : Held) (run : Run) (is : IsToldSplit 
   inside k lt = omega (arith, lt, read.inside)
 
   module _ (deep : ℕ) (goal : Option State) (total choices r : ℕ) (s : Seeks a deep goal total choices h best r) where
-    -- so many marks and returns later something else is left
-    module _ (m t : ℕ) (rest : List Raw) (passed : Passed m t s.rest rest) (some : 0 < m) (u : ℕ) (count : u ≡ t) where
-      same_returns : r + t ≡ r + u
-      same_returns = omega (arith, count)
-
-      goes_on : (new : Held) → left (code_in a deep) new.now new.frames ≡ Some rest → saved new.frames ≤ saved h.frames + m → Advanced a deep goal total choices (size_ahead a deep h) On new best (r + u)
-      goes_on new known le = (
-        subst (λ (i : ℕ). Seeks a deep goal total choices new best i) same_returns
-            (seeks_on a.options.now.longest (accepts a) goal total choices best r _ h.frames s m t _ new.frames rest known passed le),
-        fewer_on a.options.now.longest (accepts a) goal total choices best r _ h.frames s m t _ new.frames rest known passed some,
-      )
-
-      dies_off : (new : Held) → finish (code_in a deep) new.frames (Some []) ≡ Some rest → saved new.frames ≤ saved h.frames + m
-          → Advanced a deep goal total choices (size_ahead a deep h) Dead new best (r + u)
-      dies_off new known le = (
-        subst (λ (i : ℕ). SeeksBack a deep goal total choices new best i) same_returns
-            (seeks_on a.options.now.longest (accepts a) goal total choices best r _ h.frames s m t _ new.frames rest known passed le),
-        fewer_on a.options.now.longest (accepts a) goal total choices best r _ h.frames s m t _ new.frames rest known passed some,
-      )
-
     module _ (alone : 0 < n → l.group ≡ None) where
       abbrev past : (rest : List Raw) × (left (code_in a deep) (at_place l.first (h.now.state.place + n) h.now) (saved_run l.second h.now.state.place (suc n) h.now h.frames) ≡ Some rest)
           × Passed (n + 1) 0 s.rest rest
@@ -66,7 +46,7 @@ module _ (a : Attempt) (l : ToldSplit) (h : Held) (run : Run) (is : IsToldSplit 
           let one : n + 1 ≡ suc n = omega arith in
           let f = frames ∙ ap (λ (m : ℕ). saved_run l.second h.now.state.place m h.now h.frames) one in
           let saves = ap saved f in
-          goes_on (n + 1) 0 past.0 past.2 (omega arith) t none new (ap₂ (left (code_in a deep)) now f ∙ past.1) (omega (arith, saves, saved_by_run l.second h.now.state.place (suc n) h.now h.frames))
+          goes_on a h best deep goal total choices r s (n + 1) 0 past.0 past.2 (omega (arith, past.2.shorter)) t none new (ap₂ (left (code_in a deep)) now f ∙ past.1) (omega (arith, saves, saved_by_run l.second h.now.state.place (suc n) h.now h.frames))
 
       pub many_choices : saved h.frames + (n + 1) ≤ choices
       many_choices = choices_to_come a.options.now.longest (accepts a) goal total choices best r _ h.frames s (n + 1) 0 _ h.frames past.0 past.1 past.2
@@ -119,7 +99,7 @@ module _ (a : Attempt) (l : ToldSplit) (h : Held) (run : Run) (is : IsToldSplit 
             → Advanced a deep goal total choices (size_ahead a deep h) On new best (r + t)
         goes_back new now frames t count =
             let saves = ap saved frames in
-            goes_on (n + 1) (1 + (n - k)) back.0 back.2 (omega arith) t count new (ap₂ (left (code_in a deep)) now frames ∙ back.1) (omega (arith, saves, back.3))
+            goes_on a h best deep goal total choices r s (n + 1) (1 + (n - k)) back.0 back.2 (omega (arith, back.2.shorter)) t count new (ap₂ (left (code_in a deep)) now frames ∙ back.1) (omega (arith, saves, back.3))
 
         pub returns_back : r + (1 + (n - k)) ≤ total
         returns_back = returns_to_come a.options.now.longest (accepts a) goal total choices best r _ h.frames s (n + 1) (1 + (n - k)) _ h.frames back.0 back.1 back.2
@@ -138,7 +118,7 @@ module _ (a : Attempt) (l : ToldSplit) (h : Held) (run : Run) (is : IsToldSplit 
         pub is_dead : (new : Held) → new.frames ≡ h.frames → (t : ℕ) → t ≡ n + 1 → Advanced a deep goal total choices (size_ahead a deep h) Dead new best (r + t)
         is_dead new frames t count =
             let saves = ap saved frames in
-            dies_off (n + 1) (n + 1) dead.0 dead.2 (omega arith) t count new (ap (λ (fs : List Frame). finish (code_in a deep) fs (Some [])) frames ∙ dead.1) (omega (arith, saves))
+            dies_off a h best deep goal total choices r s (n + 1) (n + 1) dead.0 dead.2 (omega (arith, dead.2.shorter)) t count new (ap (λ (fs : List Frame). finish (code_in a deep) fs (Some [])) frames ∙ dead.1) (omega (arith, saves))
 
         pub returns_dead : r + (n + 1) ≤ total
         returns_dead = returns_to_come a.options.now.longest (accepts a) goal total choices best r _ h.frames s (n + 1) (n + 1) _ h.frames dead.0 dead.1 dead.2

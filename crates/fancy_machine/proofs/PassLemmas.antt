@@ -9,6 +9,7 @@ use Rattle.fancy_code.specs.Instructions.{Instruction}
 use Rattle.fancy_meaning.specs.Events.{any}
 use Rattle.fancy_code.specs.Run.{Raw, Note, Stop, choice_opened, returned, fetched, Go, before, join, erase, instr_at, run}
 use Rattle.fancy_code.specs.Thread.{size_of}
+use Rattle.fancy_code.specs.declared.step.Next.TheVariants.{On, Dead}
 use Rattle.fancy_code.proofs.RunMore.{run_more}
 use Rattle.fancy_splits.specs.declared.splits.ToldSplit.{ToldSplit}
 use Rattle.fancy_splits.specs.declared.splits.Splits.{Splits}
@@ -18,7 +19,7 @@ use Rattle.fancy_splits.specs.Splits.{AreApart, DiesPast, IsToldSplit, IsNoted, 
 use Rattle.fancy_prices.specs.Prices.{Costs, MissesIn, Dies}
 use Rattle.fancy_code.specs.Code.{instrs_of}
 use Rattle.fancy_machine.specs.declared.attempt.Attempt.{Attempt}
-use Rattle.fancy_machine.specs.Attempt.{attempt_context, accepts, code_in, BackTakes, DieFirst, PassesBack, SeeksBack}
+use Rattle.fancy_machine.specs.Attempt.{attempt_context, accepts, code_in, size_ahead, Advanced, BackTakes, DieFirst, PassesBack, Seeks, SeeksBack}
 use Rattle.fancy_trail.specs.Frames.{Spot, Frame, Held, Saved, Within, saved}
 use Rattle.fancy_trail.specs.Left.{after, finish, left}
 use Rattle.fancy_trail.specs.Ways.{at_instr, at_place, saved_run}
@@ -279,6 +280,27 @@ module _ (longest : Bool) (ok : State → Bool) (goal : Option State) (total cho
 
   pub choices_to_come : saved fs + m ≤ choices
   choices_to_come = omega (arith, passed.marked_so (final longest ok), s.room)
+
+-- an attempt that comes so many marks and returns further
+module _ (a : Attempt) (h : Held) (best : Option State) (deep : ℕ) (goal : Option State) (total choices r : ℕ) (s : Seeks a deep goal total choices h best r)
+    (m t : ℕ) (rest : List Raw) (passed : Passed m t s.rest rest) (less : length rest < length s.rest) (u : ℕ) (count : u ≡ t) where
+  same_returns : r + t ≡ r + u
+  same_returns = omega (arith, count)
+
+  fewer : (p : Option (List Raw)) → p ≡ Some rest → size_of p < size_ahead a deep h
+  fewer p known = let now = ap size_of known in let old = ap size_of s.known in omega (arith, now, old, less)
+
+  pub goes_on : (new : Held) → left (code_in a deep) new.now new.frames ≡ Some rest → saved new.frames ≤ saved h.frames + m → Advanced a deep goal total choices (size_ahead a deep h) On new best (r + u)
+  goes_on new known le = (
+    subst (λ (i : ℕ). Seeks a deep goal total choices new best i) same_returns (seeks_on a.options.now.longest (accepts a) goal total choices best r _ h.frames s m t _ new.frames rest known passed le),
+    fewer _ known,
+  )
+
+  pub dies_off : (new : Held) → finish (code_in a deep) new.frames (Some []) ≡ Some rest → saved new.frames ≤ saved h.frames + m → Advanced a deep goal total choices (size_ahead a deep h) Dead new best (r + u)
+  dies_off new known le = (
+    subst (λ (i : ℕ). SeeksBack a deep goal total choices new best i) same_returns (seeks_on a.options.now.longest (accepts a) goal total choices best r _ h.frames s m t _ new.frames rest known passed le),
+    fewer _ known,
+  )
 
 -- an attempt whose way is dead, and that passes over branches that die at once
 module _ (a : Attempt) where
