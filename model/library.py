@@ -236,10 +236,10 @@ def items_of_range(regex, given):
     try:
         found = regex.search(given, counts=counts)
     except Limit as limit:
-        return [f"{counts.returns} returns", "!" + limit.kind]
+        return [f"{counts.returns} returns", "!" + limit.kind, "kept", *["!" + limit.kind] * 2]
     matches = list(regex.matches(given))
-    first = [f"{counts.returns} returns" if regex.hard else None, span(found and found.span), spans(found)]
-    return [*first, "all", *listed(matches, lambda it: span(it.span)), "groups", *listed(matches, spans)]
+    first = [span(found and found.span), spans(found)]
+    return [f"{counts.returns} returns" if regex.hard else None, *first, "kept", *first, "all", *listed(matches, lambda it: span(it.span)), "groups", *listed(matches, spans)]
 
 
 # ------------------------------------------------------------------ the program calls
@@ -360,6 +360,9 @@ class Calls:
         found = item(lambda: self.regex.search(self.part), lambda it: span(it and it.span))
         matched = found if found.startswith("!") else "false" if found == "none" else "true"
         return [matched, found, found, found, "within true"]
+
+    def find_with(self):
+        return [item(lambda: it.search(self.part), show) for it in self.members for show in (lambda found: span(found and found.span), spans)]
 
     def captures(self):
         return [item(lambda: self.regex.search(it), spans) for it in (self.whole, self.part, self.part)]

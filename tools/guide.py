@@ -34,7 +34,8 @@ CALLS = {
     },
     "searches": {
         "Regex": "is_match is_match_input find find_from_pos find_input captures captures_from_pos captures_input can_search "
-        "find_input_counted",
+        "find_input_with captures_input_with find_input_counted",
+        "SearchCache": "new",
         "Work": "new after steps returns units work reset is_spent has_work_for add add_attempt count_step_within count_return count_returns count_return_within count_units",
     },
     "lists": {

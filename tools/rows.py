@@ -109,6 +109,12 @@ def find_in(pattern, haystack, start, place, options=""):
         yield answered(asking.line("find_in", letters, pattern, haystack, start), items)
 
 
+def find_with(patterns, haystack, start, all, options=""):
+    items = [item(places, form) for places in all for form in (lambda it: span(it and it[0]), groups)]
+    for letters in (in_options(options), in_options(options, "seek")):
+        yield answered(asking.line("find_with", letters, patterns, haystack, start), items)
+
+
 def find_by_overrides(pattern, haystack, switches, without, place):
     yield from find_in(pattern, haystack, 0, without, switches)
     yield from find_in(pattern, haystack, 0, place, switches + " overrides")
@@ -356,7 +362,7 @@ in_set = matches_of_set("in_set", of_pattern)
 groups_in_set = matches_of_set("groups_in_set", groups_of_pattern)
 
 KINDS = {
-    "find": find, "find from": find_from, "find in": find_in, "find by overrides": find_by_overrides, "given up": given_up,
+    "find": find, "find from": find_from, "find in": find_in, "find with": find_with, "find by overrides": find_by_overrides, "given up": given_up,
     "none in parts": none_in_parts, "counts": counts, "work": work, "cannot": cannot, "bytes in": bytes_in, "ASCII in": ascii_in,
     "characters in": characters_in, "told": told, "size": size, "code": code, "matches after": matches_after, "list": list_in,
     "walk": walk, "captures": captures, "captures from": captures_from,

@@ -3,6 +3,7 @@
 use crate::cases::{Ask, Asked, number_after, options_of};
 use crate::explanations::explain;
 use crate::items::write_item;
+use crate::searches::find_with;
 use fancy_regex::{Expander, Regex, RegexBuilder, RegexSet, Result, escape};
 use std::io;
 
@@ -18,6 +19,7 @@ impl Ask for Nothing {
             "bytes" => bytes(asked, out),
             "escape" => escaped(asked, out),
             "explain" | "explain_tokens" => explain(asked, out),
+            "find_with" => find_with(asked, out),
             _ => sets(asked, out),
         }
     }
@@ -25,7 +27,12 @@ impl Ask for Nothing {
 
 /// The pattern of the line as a regex, under the options of the line.
 pub(crate) fn regex_of(asked: Asked<'_>) -> Result<Regex> {
-    let pattern = String::from_str(asked.alloc, asked.pattern())?;
+    regex_from(asked.pattern(), asked)
+}
+
+/// A pattern as a regex, under the options of the line.
+pub(crate) fn regex_from(pattern: &str, asked: Asked<'_>) -> Result<Regex> {
+    let pattern = String::from_str(asked.alloc, pattern)?;
     asked.options().build(pattern)
 }
 

@@ -165,9 +165,14 @@ fn answer_words<W: io::Write>(
 /// Answers a line that is read, by what its calls are made of.
 fn answer_read<W: io::Write>(asked: Asked<'_>, out: &mut W) -> Result<()> {
     match asked.call {
-        "build" | "build_again" | "bytes" | "escape" | "set" | "explain" | "explain_tokens" => {
-            twice(Ok(Nothing), asked, out)
-        }
+        "build"
+        | "build_again"
+        | "bytes"
+        | "escape"
+        | "set"
+        | "explain"
+        | "explain_tokens"
+        | "find_with" => twice(Ok(Nothing), asked, out),
         "in_set" | "groups_in_set" | "tokens" | "tell_set" => twice(set_of(asked), asked, out),
         "set_of_regexes" => from_regexes(asked, out),
         "expand" | "read" | "write" => answer_by_captures(asked, out),

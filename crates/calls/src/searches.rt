@@ -1,5 +1,6 @@
 //! Calls of a regex.
 
+use crate::builds::regex_from;
 use crate::cases::{Ask, Asked};
 use crate::fields::{write_bytes, write_count, write_number, write_refusal, write_text};
 use crate::items::{Item, write_all, write_item};
@@ -7,7 +8,7 @@ use crate::members::{bytes, characters};
 use crate::parts;
 use crate::parts::is_within;
 use crate::templates::{check, replace, replace_by};
-use fancy_regex::{Regex, RegexInput, Replacer, Work};
+use fancy_regex::{Regex, RegexInput, Replacer, SearchCache, Work};
 use std::io;
 
 impl Ask for Regex {
@@ -78,6 +79,32 @@ fn capture<W: io::Write>(regex: &Regex, asked: Asked<'_>, out: &mut W) {
     write_item(regex.captures(asked.text), out);
     write_item(regex.captures_from_pos(asked.text, asked.number), out);
     write_item(regex.captures_input(input), out);
+}
+
+/// The first match by each pattern of the line from its byte offset on, and its groups: all in one cache.
+pub(crate) fn find_with<W: io::Write>(asked: Asked<'_>, out: &mut W) {
+    let mut cache = SearchCache::new(asked.alloc);
+    for pattern in asked.patterns {
+        match regex_from(*pattern, asked) {
+            Ok(regex) => find_in_cache(&regex, &mut cache, asked, out),
+            Err(error) => write_refusal(&error, out),
+        }
+    }
+}
+
+/// The first match from the byte offset of the line on, and its groups, in this cache.
+fn find_in_cache<W: io::Write>(
+    regex: &Regex,
+    cache: &mut SearchCache,
+    asked: Asked<'_>,
+    out: &mut W,
+) {
+    let input = asked.input();
+    if !regex.can_search(&input) {
+        return cannot(out);
+    }
+    write_item(regex.find_input_with(cache, input.again()), out);
+    write_item(regex.captures_input_with(cache, input), out);
 }
 
 /// The names of the groups.

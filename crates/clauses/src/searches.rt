@@ -6,16 +6,18 @@
 ghost use Rattle.std.specs.Prelude.{◌↔◌, ◌≡◌, IfErr, IfOk, IfSome, None, is_some, string_bytes, true};
 ghost use Rattle.fancy_regex.specs.Answers.{HasNone};
 ghost use Rattle.fancy_regex.specs.Captures.{found_by, searched_in, spans_if};
-ghost use Rattle.fancy_regex.specs.Inputs.{haystack_in};
-ghost use Rattle.fancy_regex.specs.Limited.{Allows, Refuses};
-ghost use Rattle.fancy_regex.specs.Regexes.{options_in, query};
+ghost use Rattle.fancy_regex.specs.Inputs.{haystack_in, request_in};
+ghost use Rattle.fancy_regex.specs.Limited.{Allows, AllowsEachStep, Refuses};
+ghost use Rattle.fancy_regex.specs.Regexes.{easy_in, options_in, query};
 ghost use Rattle.fancy_regex.specs.Requests.{whole};
 ghost use Rattle.fancy_regex.specs.Search.{search};
+ghost use Rattle.fancy_regex.specs.SearchCounts.{IsOutOfSteps};
 ghost use Rattle.fancy_regex.specs.Searches.{CanSearchInput, FindsFirst, asked_by, asked_from, asked_whole, first_groups};
 ghost use Rattle.fancy_regex.specs.Searching.{StartsCleanly, Suits};
 ghost use Rattle.fancy_regex.specs.Spans.{bytes_in, span_in, span_in_bytes, text_in};
 
-use fancy_regex::{Captures, Input, Match, MatchBytes, Regex, RegexInput, Result};
+use fancy_regex::{Captures, Input, Match, MatchBytes, Regex, RegexInput, Result, SearchCache};
+use std::alloc::Global;
 
 /// The first match in a haystack.
 pub fn find<S: Input>(regex: &Regex, haystack: S) -> Result<Option<S::Match>>
@@ -59,6 +61,29 @@ pub fn find_input<S: Input>(regex: &Regex, input: RegexInput<S>) -> Result<Optio
     ensures allowed { IfOk result (λ _. Allows regex.now (asked_by regex.now S.bytes input)) }
 {
     regex.find_input(input)
+}
+
+/// The first match that an input asks for, found in memory that the caller holds.
+pub fn find_input_with<S: Input>(
+    regex: &Regex,
+    cache: &mut SearchCache,
+    input: RegexInput<S>,
+) -> Result<Option<S::Match>>
+    requires searched { CanSearchInput S.text S.bytes (options_in regex.now) input }
+    ensures found { IfOk result (λ m. FindsFirst S.span m (asked_by regex.now S.bytes input)) }
+    ensures none { IfOk result (λ m. (m ≡ None) ↔ HasNone (asked_by regex.now S.bytes input)) }
+    ensures within { IfOk result (λ m. IfSome m (λ x. S.within x ≡ S.bytes (haystack_in input))) }
+    ensures refused { IfErr result (λ e. Refuses regex.now (asked_by regex.now S.bytes input) e) }
+    ensures allowed { IfOk result (λ _. Allows regex.now (asked_by regex.now S.bytes input)) }
+    ensures unlimited { easy_in regex.now ≡ true → AllowsEachStep regex.now (request_in input)
+        → IsOutOfSteps result → ⊥ }
+{
+    regex.find_input_with(cache, input)
+}
+
+/// What searches work in, without memory at first.
+pub fn new_cache(alloc: Global) -> SearchCache {
+    SearchCache::new(alloc)
 }
 
 /// Whether a haystack has a match.
@@ -131,6 +156,25 @@ pub fn captures_input<'r, S: Input>(
     ensures allowed { IfOk result (λ _. Allows regex.now (asked_by regex.now S.bytes input)) }
 {
     regex.captures_input(input)
+}
+
+/// The groups of the first match that an input asks for, found in memory that the caller holds.
+pub fn captures_input_with<'r, S: Input>(
+    regex: &'r Regex,
+    cache: &mut SearchCache,
+    input: RegexInput<S>,
+) -> Result<Option<Captures<'r, S>>>
+    requires searched { CanSearchInput S.text S.bytes (options_in regex.now) input }
+    ensures found { IfOk result
+        (λ m. spans_if m ≡ first_groups (asked_by regex.now S.bytes input)) }
+    ensures within { IfOk result (λ m. IfSome m (λ c. searched_in c ≡ haystack_in input)) }
+    ensures regex { IfOk result (λ m. IfSome m (λ c. found_by c ≡ regex.now)) }
+    ensures refused { IfErr result (λ e. Refuses regex.now (asked_by regex.now S.bytes input) e) }
+    ensures allowed { IfOk result (λ _. Allows regex.now (asked_by regex.now S.bytes input)) }
+    ensures unlimited { easy_in regex.now ≡ true → AllowsEachStep regex.now (request_in input)
+        → IsOutOfSteps result → ⊥ }
+{
+    regex.captures_input_with(cache, input)
 }
 
 /// In a `&str` a match is one of text, with a text's ends.

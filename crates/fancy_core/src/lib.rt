@@ -2,6 +2,7 @@
 #![tactic(auto)]
 
 pub mod attempt;
+pub mod cached;
 pub mod captures;
 mod capturing;
 pub mod iter;
