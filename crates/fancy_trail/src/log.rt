@@ -5,7 +5,7 @@
 //! saved when a write to it was logged last. Where a region ends and its branches are dropped, the writes that were logged for them
 //! are left out of the log, but for the first ones since the branch that is the last one then.
 
-ghost use Rattle.std.specs.Prelude.{◌≡◌, ◌≤◌, map, length, take, drop, filter, replicate, OnOk, vec_len, slice_set, slice_index_or, ℕ};
+ghost use Rattle.std.specs.Prelude.{◌≡◌, ◌≤◌, ◌+◌, ◌++◌, ◌∷◌, [], map, length, take, drop, filter, replicate, OnOk, OnErr, vec_len, slice_set, slice_index_or, ℕ};
 ghost use Rattle.fancy_trail.specs.Log.{cell_slot, cell_level, empty_cell, old_cell, undone_by, is_kept, lowered};
 
 use fancy_code::slot::{EMPTY, Slot};
@@ -79,6 +79,17 @@ pub fn forget_levels(cells: &mut Vec<Cell>)
     'cells: for index in 0..cells.len() {
         set_level(cells, index, 0);
     }
+}
+
+/// Puts a write at the end of a log.
+#[inline(never)]
+pub fn put_write(log: &mut Vec<Write>, write: Write) -> Result<(), AllocError>
+    ensures items { OnOk result (log.new.items ≡ log.old.items ++ write ∷ []) }
+    ensures refused { OnErr result (log.new.items ≡ log.old.items) }
+    ensures len { OnOk result (vec_len log.new ≡ vec_len log.old + 1) }
+{
+    log.push(write)?;
+    Ok(())
 }
 
 /// Undoes the writes of a log that has more, the last one first, down to a length.

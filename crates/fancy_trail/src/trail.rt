@@ -15,7 +15,7 @@ use crate::layer::{
     Kind, Layer, cut, earlier, is_ended, is_ended_by_any, is_saved, put_layer, put_two, region_by,
     take_last,
 };
-use crate::log::{Cell, Write, begin_cells, cell_at, forget_levels, thin, undo};
+use crate::log::{Cell, Write, begin_cells, cell_at, forget_levels, put_write, thin, undo};
 use fancy_code::slot::Slot;
 use fancy_code::step::Next;
 use fancy_input::refusal::SearchRefusal;
@@ -376,7 +376,7 @@ impl Trail {
             };
             return Ok(());
         }
-        self.log.push(Write { group, old })?;
+        put_write(&mut self.log, Write { group, old })?;
         self.cells[group] = Cell {
             slot,
             level: self.branches,

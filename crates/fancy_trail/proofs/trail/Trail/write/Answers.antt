@@ -42,9 +42,9 @@ invariant_of-self-2 c =
     let old = get_or_read c.self.inside.cells.items c.args.group c.index-old.result.now lt c.index-old.ensures empty_cell in (
       c.self.invariant.0,
       c.self.invariant.1,
-      rises_more 0 (length c.self.inside.log.items) _ c.self.inside.layers.items (omega (arith, ap length c.in_ok-push.ensures.items, length-append {A = Write})) c.self.invariant.2,
+      rises_more 0 (length c.self.inside.log.items) _ c.self.inside.layers.items (omega (arith, ap length c.in_ok-put_write.ensures.items, length-append {A = Write})) c.self.invariant.2,
       c.self.invariant.3,
-      rw c.in_ok-push.ensures.items (logged c.self.inside.layers.items c.self.inside.log.items c.self.inside.cells.items c.self.invariant.2 c.self.invariant.4 c.args.group c.index-old.result.now lt old new _ c.self.invariant.0 refl (omega (arith, c.if-old-self.false, c.self.invariant.0))),
+      rw c.in_ok-put_write.ensures.items (logged c.self.inside.layers.items c.self.inside.log.items c.self.inside.cells.items c.self.invariant.2 c.self.invariant.4 c.args.group c.index-old.result.now lt old new _ c.self.invariant.0 refl (omega (arith, c.if-old-self.false, c.self.invariant.0))),
       λ e. absurd (true≢false e),
     )
 
@@ -57,6 +57,6 @@ returns c =
     (ap cell_slot old ∙ sym (get_or-map cell_slot c.self.inside.cells.items c.args.group empty_cell empty_slot lt)) in
     record {
       now = written_spot _ _ _ _ c.args.group c.self.inside.cells.items _ ∙ ap (λ (h : Held). written c.args.group c.args.slot h.now) c.self.view_is;
-      frames = rw (c.in_ok-push.ensures.items, map-set) (frames ∙ ap (λ (h : Held). h.frames) c.self.view_is);
+      frames = rw (c.in_ok-put_write.ensures.items, map-set) (frames ∙ ap (λ (h : Held). h.frames) c.self.view_is);
       most = ap (λ (h : Held). h.most) c.self.view_is;
     }
