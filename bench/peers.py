@@ -37,7 +37,7 @@ PEERS = {
     "kit": ("kit", {}, "the toolchain's `regex`", None),
 }
 # (lists by line and sets have no form with options in the library's C function)
-NOT_SEEKING = ("find_lines", "captures_lines", "fresh_lines", "tokens", "set_all")
+NOT_SEEKING = ("find_lines", "find_lines_held", "captures_lines", "fresh_lines", "tokens", "set_all")
 
 
 def say(text):

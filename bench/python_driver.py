@@ -26,7 +26,7 @@ def matches_of(operation, code, text, replacement):
         return int(code.search(text) is not None)
     if operation == "fresh_lines":
         return sum(fresh(code.pattern).search(line) is not None for line in text.split("\n"))
-    if operation in ("find_lines", "captures_lines"):
+    if operation in ("find_lines", "find_lines_held", "captures_lines"):
         return sum(code.search(line) is not None for line in text.split("\n"))
     if operation in ("find_all", "set_all"):
         return sum(1 for _ in code.finditer(text))
@@ -68,7 +68,7 @@ def checksum(operation, code, text, replacement):
         parts = [(0, 0, size(code.sub(replacement, text)))]
     elif operation == "split":
         parts = [(0, 0, size(piece)) for piece in code.split(text)]
-    elif operation in ("find_lines", "captures_lines", "fresh_lines"):
+    elif operation in ("find_lines", "find_lines_held", "captures_lines", "fresh_lines"):
         parts = (it for line in text.split("\n") for it in found(line))
     else:
         parts = found(text)

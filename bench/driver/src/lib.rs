@@ -62,7 +62,7 @@ pub trait Engine: Sized {
                 counts.add(0, 0, haystack.len() - last);
             }
             "is_match" => counts.matches = u64::from(self.is_match(haystack)?),
-            "find_lines" => {
+            "find_lines" | "find_lines_held" => {
                 for line in haystack.split('\n') {
                     if let Some((s, e)) = self.find(line)? {
                         counts.add(0, s, e);

@@ -18,7 +18,7 @@ pub type Run = unsafe extern "C" fn(
 ) -> u32;
 
 /// The number of each operation is its place.
-const OPERATIONS: [&str; 11] = [
+const OPERATIONS: [&str; 12] = [
     "compile",
     "find_all",
     "captures_all",
@@ -30,6 +30,7 @@ const OPERATIONS: [&str; 11] = [
     "set_all",
     "captures_lines",
     "fresh_lines",
+    "find_lines_held",
 ];
 
 /// Added to the number, this asks for the option `seek`.
