@@ -6,7 +6,7 @@ ghost use Rattle.fancy_input.specs.Work.{steps_of, returns_of, units_of, work_of
 ghost use Rattle.fancy_input.specs.Requests.{effective_start};
 ghost use Rattle.fancy_core.specs.Captures.{spans_in, searched_in, found_by};
 ghost use Rattle.fancy_core.specs.Limited.{RefusesAt, AllowsAt};
-ghost use Rattle.fancy_core.specs.Regexes.{program_in, easy_in, group_count_in, step_limit_in};
+ghost use Rattle.fancy_core.specs.Regexes.{program_in, easy_in, group_count_in, length_in, step_limit_in};
 ghost use Rattle.fancy_search.specs.Cached.{IsAttemptIn, found_at};
 ghost use Rattle.fancy_search.specs.Programs.{query_in};
 ghost use Rattle.fancy_search.specs.Groups.{AreCut, spans_of};
@@ -188,6 +188,45 @@ pub fn find_one_item(
         IsAttemptIn m cache.new (query_in (program_in regex.now) asked.now) position) }
 {
     regex.program.read_one_item(asked, position, cache)
+}
+
+/// The match that an attempt at one position finds, as [`find_at`], for a regex that is easy and has neither a choice nor a group, where
+/// it does not come near a limit of work. `None` elsewhere, and then nothing was done. It goes on with no notes, and leaves none.
+///
+/// ```text
+/// let (text, word) = (Regex::new(alloc, "\\bab")?, Regex::new(alloc, "[a-z]+")?);
+/// find_straight(&text, &asked, 0, &mut cache)    // of "ab": Some, and in it the match 0..2
+/// find_straight(&text, &asked, 1, &mut cache)    // Some(None)
+/// find_straight(&word, &asked, 0, &mut cache)    // None
+/// ```
+pub fn find_straight(
+    regex: &Regex,
+    asked: &Asked<'_>,
+    position: usize,
+    cache: &mut AttemptCache,
+) -> Option<Option<Found>>
+    requires starts { effective_start asked.now.request.now ≤ position }
+    requires ends { position ≤ asked.now.request.now.range_end }
+    ensures easy { IfSome result (λ _. easy_in regex.now ≡ true) }
+    ensures none { IfNone result (cache.new ≡ cache.old) }
+    ensures known { cache.new.known ≡ cache.old.known }
+    ensures bounded { steps_of cache.new.work ≤ steps_of cache.old.work + length_in regex.now }
+    ensures paired { returns_of cache.old.work ≤ steps_of cache.old.work
+        → returns_of cache.new.work ≤ steps_of cache.new.work }
+    ensures limit { IsWithin (step_limit_in regex.now) cache.old.work
+        → IsWithin (step_limit_in regex.now) cache.new.work }
+    ensures units { units_of cache.new.work ≡ units_of cache.old.work }
+    ensures grows { work_of cache.old.work ≤ work_of cache.new.work }
+    ensures found { IfSome result (λ m.
+        IsAttemptIn m cache.new.engines (query_in (program_in regex.now) asked.now) position) }
+{
+    let mut counts = Work::after(&cache.work);
+    let engines = &mut cache.engines;
+    let found = regex
+        .program
+        .read_straight(asked, position, engines, &mut counts)?;
+    cache.work.add_attempt(&counts);
+    Some(found)
 }
 
 /// The match that an attempt at one position finds, as [`find_in_list`], where what attempts before found out tells it: no step is

@@ -1,5 +1,5 @@
 -- How many steps the members of a set may still take, from position to position.
-use Rattle.std.proofs.Common.{◌≡◌, ◌≤◌, ◌<◌, ◌+◌, ◌-◌, ◌⊎◌, ℕ, zero, suc, Bool, true, false, List, [], length, take, Option, Some, None, inl, inr, refl, sym, ◌∙◌, ap, subst, arith, slice_get, get_or, if◌then◌else◌, IfSome, IfNone}
+use Rattle.std.proofs.Common.{◌≡◌, ◌≤◌, ◌<◌, ◌+◌, ◌-◌, ◌*◌, ◌⊎◌, ℕ, zero, suc, Bool, true, false, List, [], length, take, Option, Some, None, inl, inr, refl, sym, ◌∙◌, ap, subst, arith, slice_get, get_or, if◌then◌else◌, IfSome, IfNone}
 use Rattle.std.specs.Global.{Box}
 use Rattle.std.specs.Prelude.{sum_by, nat_lt}
 use Rattle.std.proofs.lemmas.Bool.{ltb-true, ltb-false, le-ltb}
@@ -37,6 +37,11 @@ pub none_both : {A : Type 0} (P Q R : Type 0) → (P → Q → R) → (m : Optio
 none_both P Q R so None p q = so p q
 none_both P Q R so (Some a) p q = tt
 
+-- what is so at all is so where nothing was found
+pub none_with : {A : Type 0} (P : Type 0) → P → (m : Option A) → IfNone m P
+none_with P p None = p
+none_with P p (Some a) = tt
+
 -- what is so from where the notes serve on is so from the position on, where nothing was found
 pub none_kept : (P : ℕ → Type 0) (p : ℕ) (m : Option Found) → P (kept_from m p) → IfNone m (P p)
 none_kept P p None is = is
@@ -71,6 +76,9 @@ none_again_after program haystack request position notes is = none_again (table_
   at None is = tt
   at (Some k) is = is.reached
 
+one_more : (length n : ℕ) → length * (n + 1) ≡ length * n + length
+one_more length n = omega arith
+
 module _ (member : Regex) (request : Request) where
   -- fewer steps are left from a later place on
   pub fewer_left : (place later : ℕ) (notes : Option AttemptNotes) → place ≤ later → steps_left member request later notes ≤ steps_left member request place notes
@@ -78,6 +86,14 @@ module _ (member : Regex) (request : Request) where
       omega (arith, times_le (request.range_end + 1 - later) (request.range_end + 1 - place) (length_in member) (omega (arith, le)))
   fewer_left place later (Some notes) le =
       omega (arith, fewer_ahead (table_kept notes.kept) member.program.code request place later notes.notes.table le, fewer_again (table_kept notes.kept) member.program.code place later le)
+
+  -- where nothing was found out, as many are left from the next place on but for the length of the code
+  pub left_alone : (place : ℕ) (notes : Option AttemptNotes) → notes ≡ None → place ≤ request.range_end
+      → steps_left member request (place + 1) notes + length_in member ≤ steps_left member request place notes
+  left_alone place None none le =
+      let one : length_in member * (request.range_end + 1 - place) ≡ length_in member * (request.range_end + 1 - (place + 1)) + length_in member = ap (λ (n : ℕ). length_in member * n) (omega (arith, le)) ∙ one_more (length_in member) (request.range_end + 1 - (place + 1)) in
+      omega (arith, one)
+  left_alone place (Some notes) none le = cc
 
   -- as many are left where nothing was found out as where the member was not tried
   fresh_left : (place : ℕ) (new : Option AttemptNotes) → IfSome new (λ notes. notes.kept ≡ Nothing) → steps_left member request place new ≡ steps_left member request place None

@@ -196,7 +196,7 @@ fn end_of(found: Option<Found>, first: usize) -> usize {
 }
 
 impl Program {
-    ghost use Rattle.fancy_search.specs.SearchCounts.{RefusesEasy, IsOutOfSteps, AllowsAllSteps, tried_by, is_hopeless, IfFound, IsHardProgram, RefusesQuery, RefusesAttempt, AllowsAttempt, HasRoomFor, step_bound};
+    ghost use Rattle.fancy_search.specs.SearchCounts.{RefusesEasy, IsOutOfSteps, AllowsAllSteps, tried_by, is_hopeless, IfFound, IsHardProgram, RefusesQuery, RefusesAttempt, AllowsAttempt, HasRoomFor, HeedsStepLimit, step_bound};
     ghost use Rattle.fancy_search.specs.Programs.{program_pattern, program_options, program_stack_limit, program_groups, program_names, program_length, program_is_easy, asked_of, query_in};
     ghost use Rattle.fancy_search.specs.Served.{IsPosition, StandsIn, KeepsCounts, CountsReturns, HeedsStackLimit, Serves, ServesAlone, ServesEasily};
     ghost use Rattle.fancy_search.specs.Starts.{may_start, NeverHolds, EndsByOne};
@@ -996,6 +996,38 @@ impl Program {
         let past = past_one_item(&self.code, asked.haystack, position)?;
         cache.served = Engine::WithoutGroups(self.code.groups);
         Some(self.match_to(asked.haystack, asked.request.range_end, position, past))
+    }
+
+    /// The match that an attempt at one position finds, as [`Program::attempt_at`], for an easy pattern whose code is straight: its items
+    /// are read there, without an engine and without notes. `None` for other patterns, and where the limit of steps might be met: then
+    /// nothing was done.
+    #[inline(always)]
+    pub fn read_straight(
+        &self,
+        asked: &Asked<'_>,
+        position: usize,
+        cache: &mut Cache,
+        work: &mut Work,
+    ) -> Option<Option<Found>>
+        requires tries { IsPosition asked.now.request.now position }
+        ensures easy { IfSome result (λ _. program_is_easy self.now ≡ true) }
+        ensures answer { IfSome result
+            (λ m. IsAttemptIn m cache.new (query_in self.now asked.now) position) }
+        ensures counts { AddsSteps (program_length self.now) work.old work.new }
+        ensures within { HeedsStepLimit self.now work.old work.new }
+        ensures none { IfNone result (cache.new ≡ cache.old) }
+    {
+        if !self.easy || !self.straight {
+            return None;
+        }
+        let request = *asked.request;
+        if !self.allows_all_steps(anchored_at(request, position), work) {
+            return None;
+        }
+        let suppressed = self.for_search.suppressed_ends(request);
+        let past = past_straight(&self.code, asked.haystack, suppressed, position, work);
+        cache.served = Engine::WithoutGroups(self.code.groups);
+        Some(self.match_to(asked.haystack, request.range_end, position, past))
     }
 
     /// Whether the automaton follows the code in what is asked, and no limit of steps is to be heeded.

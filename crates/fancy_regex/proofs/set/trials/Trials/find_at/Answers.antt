@@ -1,8 +1,6 @@
-use Rattle.std.proofs.Common.{◌+◌, ◌<◌, ◌≤◌, Some, sym, ap, subst, ◌∙◌, length, arith}
+use Rattle.std.proofs.Common.{◌+◌, ◌<◌, Some, ap, ◌∙◌, length, arith}
 use Rattle.std.specs.Box.{with_value}
-use Rattle.fancy_core.specs.Regexes.{program_in, step_limit_in}
-use Rattle.fancy_input.specs.Work.{units_of, IsWithin, work_of}
-use Rattle.fancy_search.specs.declared.cache.AttemptCache.{AttemptCache}
+use Rattle.fancy_core.specs.Regexes.{program_in}
 use Rattle.fancy_search.specs.Cached.{cached_groups}
 use Rattle.fancy_search.specs.KeptTables.{KeepsNotes, kept_from}
 use Rattle.fancy_search.proofs.KeptTablesLemmas.{noted_past}
@@ -10,10 +8,21 @@ use Rattle.fancy_search.proofs.SearchedLemmas.{attempt_stands}
 use Rattle.fancy_search.proofs.ResultLemmas.{if_ok, if_ok_both}
 use Rattle.fancy_regex.specs.SetMembers.{asked_alone}
 use Rattle.fancy_regex.proofs.TrialLemmas.{noted_still, noted_now, stay_but, get_set_same}
-use Rattle.fancy_regex.proofs.SetCountLemmas.{left_stays, none_again_after, none_both, none_kept}
+use Rattle.fancy_regex.proofs.SetCountLemmas.{left_alone, left_stays, none_again_after, none_both, none_kept, none_with}
 use Rattle.fancy_regex.specs.SetCounts.{steps_left}
 use Rattle.fancy_regex.specs.Trials.{notes_at, notes_held}
 use Rattle.fancy_regex.proofs.set.trials.Trials.find_at.Goals as goal
+
+pub returns-then-not-is_easy-clause-notes : goal.returns-then-not-is_easy-clause-notes
+returns-then-not-is_easy-clause-notes c =
+    if_ok _ _ (λ m found notes at. noted_past (program_in c.args.member.now) c.args.asked.now c.args.position notes m
+    (attempt_stands (program_in c.args.member.now) c.args.asked.now (cached_groups c.find_hard.new.cache.engines) c.args.position c.requires.ends m found)
+    (c.requires.notes notes at)) c.find_hard.result c.find_hard.ensures.found
+
+pub returns-in-Some-clause-spent : goal.returns-in-Some-clause-spent
+returns-in-Some-clause-spent c easy =
+    let none = rw c.deref.ensures.value at c.in-Some.ensures.new in
+    none_with _ (omega (arith, left_alone c.args.member.now c.args.asked.now.request.now c.args.position (notes_at c.args.self.now c.args.index) none c.requires.ends, c.in-Some.ensures.bounded)) c.in-Some.found
 
 pub find_at-found-requires-clause-notes : goal.find_at-found-requires-clause-notes
 find_at-found-requires-clause-notes c =
@@ -21,52 +30,30 @@ find_at-found-requires-clause-notes c =
     rw c.deref_mut.ensures.value
     (noted_still q c.args.member.now c.args.position c.args.index c.args.self.now c.in_ok-notes.notes.value c.in_ok-notes.ensures.given c.requires.notes)
 
-pub returns-then-is_easy-clause-notes : goal.returns-then-is_easy-clause-notes
-returns-then-is_easy-clause-notes c =
+pub returns-clause-notes : goal.returns-clause-notes
+returns-clause-notes c =
     if_ok _ _ (λ m. noted_now c.args.member.now c.args.asked.now.haystack.now c.args.asked.now.request.now (kept_from m c.args.position) c.args.index c.take_notes.new.self.notes.items (with_value c.in_ok-notes.notes c.find_at-found.new.notes)
     (omega (arith, c.in_ok-notes.ensures.reached, c.take_notes.new.self.notes.ok.0))) c.find_at-found.result c.find_at-found.ensures.notes
 
-pub returns-clause-notes : goal.returns-clause-notes
-returns-clause-notes c =
-    if_ok _ _ (λ m found notes at. noted_past (program_in c.args.member.now) c.args.asked.now c.args.position notes m
-    (attempt_stands (program_in c.args.member.now) c.args.asked.now (cached_groups c.find_hard.new.cache.engines) c.args.position c.requires.ends m found)
-    (c.requires.notes notes at)) c.find_hard.result c.find_hard.ensures.found
+pub returns-clause-others : goal.returns-clause-others
+returns-clause-others c = stay_but c.args.index c.args.self.now c.take_notes.new.self (Some (with_value c.in_ok-notes.notes c.find_at-found.new.notes)) c.take_notes.ensures.others
 
-pub returns-then-is_easy-clause-others : goal.returns-then-is_easy-clause-others
-returns-then-is_easy-clause-others c = stay_but c.args.index c.args.self.now c.take_notes.new.self (Some (with_value c.in_ok-notes.notes c.find_at-found.new.notes)) c.take_notes.ensures.others
-
-pub returns-then-is_easy-clause-bounded : goal.returns-then-is_easy-clause-bounded
-returns-then-is_easy-clause-bounded c easy =
+pub returns-clause-bounded : goal.returns-clause-bounded
+returns-clause-bounded c easy =
     let stays = left_stays c.args.member.now c.args.asked.now.request.now c.args.position (notes_at c.args.self.now c.args.index) (Some c.in_ok-notes.notes.value) c.in_ok-notes.ensures.given in
     let bounded = rw c.deref_mut.ensures.value at (c.find_at-found.ensures.bounded easy) in
-    omega (arith, stays, bounded, ap (λ w. w.work.steps) c.take_notes.ensures.cache)
+    let same = ap (λ w. w.work.steps) (c.take_notes.ensures.cache ∙ c.in_default.ensures.none) in
+    omega (arith, stays, bounded, same)
 
-pub returns-then-is_easy-clause-spent : goal.returns-then-is_easy-clause-spent
-returns-then-is_easy-clause-spent c easy =
+pub returns-clause-spent : goal.returns-clause-spent
+returns-clause-spent c easy =
     let within : c.args.index < length c.take_notes.new.self.notes.items = omega (arith, c.in_ok-notes.ensures.reached, c.take_notes.new.self.notes.ok.0) in
     let stays = left_stays c.args.member.now c.args.asked.now.request.now c.args.position (notes_at c.args.self.now c.args.index) (Some c.in_ok-notes.notes.value) c.in_ok-notes.ensures.given in
     let after = ap (λ held. steps_left c.args.member.now c.args.asked.now.request.now (c.args.position + 1) (notes_held held)) (get_set_same c.take_notes.new.self.notes.items c.args.index (Some (with_value c.in_ok-notes.notes c.find_at-found.new.notes)) within) in
     let kept = if_ok _ _ (none_kept (λ p. KeepsNotes (program_in c.args.member.now) c.args.asked.now.haystack.now c.args.asked.now.request.now p c.find_at-found.new.notes) c.args.position) c.find_at-found.result c.find_at-found.ensures.notes in
+    let same = ap (λ w. w.work.steps) (c.take_notes.ensures.cache ∙ c.in_default.ensures.none) in
     if_ok_both _ _ _
     (λ m noted spent. none_both _ _ _
-    (λ kept less. omega (arith, stays, after, less, none_again_after (program_in c.args.member.now) c.args.asked.now.haystack.now c.args.asked.now.request.now c.args.position c.find_at-found.new.notes kept, ap (λ w. w.work.steps) c.take_notes.ensures.cache))
+    (λ kept less. omega (arith, stays, after, less, none_again_after (program_in c.args.member.now) c.args.asked.now.haystack.now c.args.asked.now.request.now c.args.position c.find_at-found.new.notes kept, same))
     m noted spent)
     c.find_at-found.result kept (rw c.deref_mut.ensures.value at (c.find_at-found.ensures.spent easy))
-
-pub returns-then-is_easy-clause-limit : goal.returns-then-is_easy-clause-limit
-returns-then-is_easy-clause-limit c within = c.find_at-found.ensures.limit (subst (λ (k : AttemptCache). IsWithin (step_limit_in c.args.member.now) k.work) (sym c.take_notes.ensures.cache) within)
-
-pub returns-in_err-notes-clause-limit : goal.returns-in_err-notes-clause-limit
-returns-in_err-notes-clause-limit c within = subst (λ (k : AttemptCache). IsWithin (step_limit_in c.args.member.now) k.work) (sym c.take_notes.ensures.cache) within
-
-pub returns-then-is_easy-clause-units : goal.returns-then-is_easy-clause-units
-returns-then-is_easy-clause-units c easy = c.find_at-found.ensures.units easy ∙ ap (λ k. units_of k.work) c.take_notes.ensures.cache
-
-pub returns-in_err-notes-clause-units : goal.returns-in_err-notes-clause-units
-returns-in_err-notes-clause-units c easy = ap (λ k. units_of k.work) c.take_notes.ensures.cache
-
-pub returns-then-is_easy-clause-grows : goal.returns-then-is_easy-clause-grows
-returns-then-is_easy-clause-grows c = subst (λ (k : AttemptCache). work_of k.work ≤ work_of c.find_at-found.new.cache.work) c.take_notes.ensures.cache c.find_at-found.ensures.grows
-
-pub returns-in_err-notes-clause-grows : goal.returns-in_err-notes-clause-grows
-returns-in_err-notes-clause-grows c = omega (arith, ap (λ k. work_of k.work) c.take_notes.ensures.cache)
