@@ -1,5 +1,5 @@
 -- Groups of members as the bits of a number, and the members in them.
-use Rattle.std.proofs.Common.{◌≡◌, ℕ, zero, suc, ◌+◌, ◌-◌, ◌*◌, ◌^◌, ◌/◌, ◌%◌, ◌<◌, ◌≤◌, ◌==◌, ◌&&◌, ◌||◌, ◌⊎◌, max, min, Bool, true, false, List, Option, None, Some, IfSome, MatchOption, length, slice_get, slice_index_or, slice_set, bit_and, bit_or, inl, inr, refl, sym, ap, subst, ◌∙◌, arith, eq-eqb, ne_eqb, true≢false, le_refl, get_or-set_same, get_or-set_other}
+use Rattle.std.proofs.Common.{◌≡◌, ℕ, zero, suc, ◌+◌, ◌-◌, ◌*◌, ◌^◌, ◌/◌, ◌%◌, ◌<◌, ◌≤◌, ◌==◌, ◌&&◌, ◌||◌, ◌⊎◌, max, min, Bool, true, false, List, Option, None, Some, MatchOption, length, slice_get, bit_and, bit_or, inl, inr, refl, sym, ap, subst, ◌∙◌, arith, eq-eqb, ne_eqb, true≢false, le_refl}
 use Rattle.std.specs.Int.{bit_at, w64, w128, trailing_zeros}
 use Rattle.std.proofs.Math.Bool.{or-true, or-false}
 use Rattle.std.proofs.lemmas.Bool.{cases_eq}
@@ -10,8 +10,7 @@ use Rattle.std.proofs.lemmas.Nat.Bits.{bit_at-zero, bit_at_set_same, bit_at_set_
 use Rattle.fancy_core.specs.declared.regex.Regex.{Regex}
 use Rattle.fancy_core.specs.RegexStarts.{regex_may_start, NoneHolds}
 use Rattle.fancy_regex.specs.declared.set.candidates.Groups.{Groups}
-use Rattle.fancy_regex.specs.declared.set.candidates.Candidates.{Candidates}
-use Rattle.fancy_regex.specs.Candidates.{has_group, groups_before, NoGroupFrom, IsNextGroup, HoldAll, HoldAhead, HoldAllAt, HoldOnly, by_byte, by_later, NoMemberBetween, IsNextMember}
+use Rattle.fancy_regex.specs.Candidates.{has_group, NoGroupFrom, IsNextGroup, HoldAll, HoldAhead, HoldAllAt, HoldOnly, by_byte, by_later, NoMemberBetween, IsNextMember}
 
 -- the bits of a number from one on are those of the number shifted
 shifted : (n k i : ℕ) → k ≤ i → bit_at n i ≡ bit_at (n / 2 ^ k) (i - k)
@@ -257,18 +256,3 @@ module _ (width : ℕ) (members : List Regex) (searched : List ℕ) (p : ℕ) wh
         | inl first ↦ hold k r is first
         | inr later ↦ by_later place byte there (ahead k r is later)
       ]
-
--- one more place of a table that is as it should be
-pub table_step : (table : List Groups) (P : ℕ → Groups → Type 0) (i : ℕ) (v d : Groups) → i < length table → P i v → ((k : ℕ) → k < i → P k (slice_index_or table k d))
-    → (k : ℕ) → k < i + 1 → P k (slice_index_or (slice_set table i v) k d)
-table_step table P i v d within is below k lt =
-    elim (cases_eq k i) [
-      | inl same ↦ rw same (subst (P i) (sym (get_or-set_same table i v d within)) is)
-      | inr other ↦ subst (P k) (sym (get_or-set_other table i k v d other)) (below k (omega (arith, lt, other)))
-    ]
-
--- the groups for each byte, and for none
-pub first_listed : (members : List Regex) (c : Candidates) → HoldAll c.width members None c.at_end
-    → ((b : ℕ) → b < 256 → HoldAll c.width members (Some b) (slice_index_or c.by_byte b c.at_end)) → (next : Option ℕ) → IfSome next (λ b. b < 256) → HoldAll c.width members next (groups_before c next)
-first_listed members c end bytes None small = end
-first_listed members c end bytes (Some b) small = bytes b small

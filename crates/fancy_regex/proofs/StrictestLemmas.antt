@@ -1,27 +1,12 @@
 -- What the strictest member of a set can search, each can.
-use Rattle.std.proofs.Common.{◌≡◌, ◌<◌, ◌+◌, ℕ, Bool, true, false, List, Some, length, refl, sym, subst, arith, inl, inr, ◌∙◌, slice_get, slice_index_or}
-use Rattle.std.specs.Prelude.{All, IsAscii}
+use Rattle.std.proofs.Common.{◌≡◌, ◌<◌, ◌+◌, ℕ, false, List, Some, length, sym, subst, arith, inl, inr, ◌∙◌, slice_get, slice_index_or}
 use Rattle.std.proofs.lemmas.Bool.{true≢false}
 use Rattle.std.proofs.lemmas.Bool.Decides.{leb_tells}
 use Rattle.std.proofs.lemmas.Option.{get_or_from_slice_get}
 use Rattle.fancy_tree.specs.Modes.{keeps_characters}
-use Rattle.fancy_input.specs.declared.input.Request.{Request}
 use Rattle.fancy_core.specs.declared.regex.Regex.{Regex}
 use Rattle.fancy_core.specs.Regexes.{options_in}
-use Rattle.fancy_search.specs.Searching.{CanSearch}
 use Rattle.fancy_regex.specs.Strictest.{IsStrictest, KeepsCharacters}
-
-pub each_can : (members : List Regex) (index : ℕ) (d : Regex) (text : Bool) (haystack : List ℕ) (request : Request) → IsStrictest members index
-    → CanSearch (options_in (slice_index_or members index d)) text haystack request → All (λ r. CanSearch (options_in r) text haystack request) members
-each_can members index d text haystack request strict can k e inside = record {
-  suits = λ is cuts. ascii is cuts (keeps_characters (options_in (slice_index_or members index d)).bytes_mode) refl;
-  starts = can.starts;
-  range_starts = can.range_starts;
-  range_ends = can.range_ends;
-} where
-  ascii : text ≡ true → keeps_characters (options_in (slice_index_or members k e)).bytes_mode ≡ false → (b : Bool) → keeps_characters (options_in (slice_index_or members index d)).bytes_mode ≡ b → IsAscii haystack
-  ascii is cuts true keeps = absurd (true≢false (sym (strict.decides d keeps k e inside) ∙ cuts))
-  ascii is cuts false keeps = can.suits is keeps
 
 -- where the matches of one member may stand anywhere, it decides
 pub first_decides : (members : List Regex) (index : ℕ) (member : Regex) → slice_get members index ≡ Some member → index < length members
