@@ -17,7 +17,7 @@ GROUPS = {
     "lexers": "lexers, as lists of tokens",
     "scripts": "text in several scripts",
     "short": "texts of some 20 bytes",
-    "held": "the same in memory that the caller holds",
+    "held": "texts of some 20 bytes, in memory that the caller holds",
     "built-anew": "a pattern that is built anew for each line",
     "hard": "hard patterns",
     "attacks": "patterns and texts that make backtracking slow",
