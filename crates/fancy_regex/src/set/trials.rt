@@ -2,16 +2,16 @@
 //!
 //! A set tries its members at one position after another. What an attempt of a member finds out is kept for the next attempts of
 //! that member, so an easy member takes no more steps at all positions together than one search of it does. The memory for that
-//! is taken as members are first tried; all other memory serves all members.
+//! is taken as a member first needs it; all other memory serves all members.
 
 ghost use Rattle.std.specs.Prelude.{◌≡◌, ◌≤◌, ◌<◌, ◌+◌, ℕ, true, List, [], Some, None, IfOk, IfErr, IfSome, IfNone, length, slice_get, vec_len};
 ghost use Rattle.fancy_bytes.specs.Lacks.{AreKnown};
 ghost use Rattle.fancy_core.specs.Captures.{spans_if, searched_in, found_by};
 ghost use Rattle.fancy_core.specs.Limited.{RefusesAt, AllowsAt};
-ghost use Rattle.fancy_core.specs.Regexes.{easy_in, length_in, options_in, program_in, step_limit_in};
+ghost use Rattle.fancy_core.specs.Regexes.{easy_in, options_in, program_in, step_limit_in};
 ghost use Rattle.fancy_core.specs.Searches.{CanSearchInput, asked_by, groups_of_attempt};
 ghost use Rattle.fancy_input.specs.Inputs.{haystack_in, request_in};
-ghost use Rattle.fancy_input.specs.Work.{steps_of, returns_of, units_of, work_of, IsWithin};
+ghost use Rattle.fancy_input.specs.Work.{units_of, IsWithin};
 ghost use Rattle.fancy_input.specs.Requests.{effective_start};
 ghost use Rattle.fancy_search.specs.Cached.{IsAttemptIn};
 ghost use Rattle.fancy_search.specs.KeptTables.{KeepsNotes, kept_from};
@@ -86,6 +86,13 @@ impl Trials {
         }
     }
 
+    /// Whether the member with this index has found out nothing that would be gone on with.
+    fn is_new(&self, index: usize) -> bool
+        ensures { result ≡ true → notes_at self.now index ≡ None }
+    {
+        index >= self.notes.len() || self.notes[index].is_none()
+    }
+
     /// The groups of the match that the attempt of the member with this index finds at a position, or none, as [`find_at`] finds it.
     pub(crate) fn attempt<'r, S: Input>(
         &mut self,
@@ -145,7 +152,8 @@ impl Trials {
         Ok(Some(captures))
     }
 
-    /// The match that the attempt of the member with this index finds at a position, as [`find_at`]. A hard member takes no notes.
+    /// The match that the attempt of the member with this index finds at a position, as [`find_at`]. A hard member takes no notes,
+    /// nor does one whose items are read, as long as it has none.
     fn find_at(
         &mut self,
         index: usize,
@@ -188,10 +196,11 @@ impl Trials {
         if !member.is_easy() {
             return find_hard(member, asked, position, &mut self.cache);
         }
-        let cache = &mut self.cache;
-        let read = read(&self.notes, index, member, asked, position, cache);
-        if let Some(found) = read {
-            return Ok(found);
+        if self.is_new(index) {
+            let read = find_straight(member, asked, position, &mut self.cache);
+            if let Some(found) = read {
+                return Ok(found);
+            }
         }
         let mut notes = self.take_notes(index)?;
         let found = find_at(member, asked, position, &mut notes, &mut self.cache);
@@ -245,37 +254,6 @@ impl Trials {
         self.notes[index] = Some(notes);
         found
     }
-}
-
-/// The match that the attempt of the member with this index finds at a position, where it has found out nothing yet that would be gone
-/// on with, and its items are read as [`find_straight`] reads them. `None` elsewhere, and then nothing was done.
-fn read(
-    notes: &[Option<Box<AttemptNotes>>],
-    index: usize,
-    member: &Regex,
-    asked: &Asked<'_>,
-    position: usize,
-    cache: &mut AttemptCache,
-) -> Option<Option<Found>>
-    requires starts { effective_start asked.now.request.now ≤ position }
-    requires ends { position ≤ asked.now.request.now.range_end }
-    ensures new { IfSome result (λ _. notes_held (slice_get notes.now index) ≡ None) }
-    ensures none { IfNone result (cache.new ≡ cache.old) }
-    ensures known { cache.new.known ≡ cache.old.known }
-    ensures bounded { steps_of cache.new.work ≤ steps_of cache.old.work + length_in member.now }
-    ensures paired { returns_of cache.old.work ≤ steps_of cache.old.work
-        → returns_of cache.new.work ≤ steps_of cache.new.work }
-    ensures limit { IsWithin (step_limit_in member.now) cache.old.work
-        → IsWithin (step_limit_in member.now) cache.new.work }
-    ensures units { units_of cache.new.work ≡ units_of cache.old.work }
-    ensures grows { work_of cache.old.work ≤ work_of cache.new.work }
-    ensures found { IfSome result (λ m.
-        IsAttemptIn m cache.new.engines (query_in (program_in member.now) asked.now) position) }
-{
-    if index < notes.len() && notes[index].is_some() {
-        return None;
-    }
-    find_straight(member, asked, position, cache)
 }
 
 /// The match that the attempt of the member with this index finds at a position, where what its attempts before found out tells it.
