@@ -21,8 +21,8 @@ use std::alloc::Global;
 
 /// What searches work in, held by the caller from one to the next: those of any regexes, in any haystacks.
 ///
-/// It has no memory at first. A search takes what it needs and does not have yet, and the cache keeps it until it is dropped. So
-/// of many short searches only the first ones allocate. No answer depends on what was searched before.
+/// It has no memory at first. A search takes what it needs, and the cache keeps it for the next one, until it is dropped. No answer
+/// depends on what was searched before.
 ///
 /// ```text
 /// let mut cache = SearchCache::new(alloc);
