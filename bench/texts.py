@@ -381,6 +381,7 @@ def cut(text, size):
 # Texts of any size, whose searches are to show how time grows.
 GROWING = {
     "a": lambda size: "a" * size,
+    "a-at": lambda size: "a" * (size - 1) + "@",
     "ab": lambda size: cut("ab", size),
     "ba": lambda size: "b" + "a" * (size - 1),
     "blanks-x": lambda size: " " * (size - 1) + "x",

@@ -65,6 +65,8 @@ def rows():
         yield 'find (?:ab)*+c in ab within 1,000,000 steps', size, find('-,W1000000', '(?:ab)*+c', 'ab' * (size // 2))
         for pattern in ('a*+b', '(?>a*)b', '\\w++@', '[^"]*+"', '(?<!a)a*+b', '(?>a+)+b', '[a-z]++\\d++x'):
             yield 'find %s in a' % pattern, size, find('-', pattern, 'a' * size)
+        yield 'find [a-z]{1,3}[0-9]@ in a and an @', size, find('-', '[a-z]{1,3}[0-9]@', 'a' * size + '@')
+        yield 'find [0-9]+[a-z]*@ in a, an @ and a blank', size, find('-', '[0-9]+[a-z]*@', 'a@ ' * (size // 3))
         yield 'find (?>a*)(?>b*)c in ab', size, find('-', '(?>a*)(?>b*)c', 'ab' * (size // 2))
         yield 'find \\s++$ in blanks before an x', size, find('-', '\\s++$', ' ' * size + 'x')
         yield 'find "[^"\\n]*+" in lines that each begin with a quote', size, find('-', '"[^"\\n]*+"', '"abc def\n' * (size // 9))

@@ -1,11 +1,13 @@
 -- Members of sets, found by going over the edges and over the numbers.
-use Rattle.std.proofs.Common.{◌≡◌, ℕ, zero, suc, ◌+◌, ◌-◌, ◌<◌, ◌≤◌, ◌==◌, ◌⊎◌, Bool, true, false, not, ◌&&◌, ◌||◌, nat_le, nat_lt, List, [], ◌∷◌, length, drop, get_or, refl, sym, ap, ap₂, ◌∙◌, arith, inl, inr, true≢false}
+use Rattle.std.proofs.Common.{◌≡◌, ℕ, zero, suc, ◌+◌, ◌-◌, ◌<◌, ◌≤◌, ◌==◌, ◌⊎◌, Bool, true, false, not, ◌&&◌, ◌||◌, nat_le, nat_lt, List, [], ◌∷◌, length, drop, get_or, slice_index, le_refl, refl, sym, ap, ap₂, ◌∙◌, arith, inl, inr, true≢false}
 use Rattle.std.proofs.lemmas.Bool.Decides.{nat_tests}
 use Rattle.std.proofs.lemmas.Bool.{cases_eq, cases_lt}
 use Rattle.fancy_tree.specs.declared.tree.Meaning.{Meaning}
-use Rattle.fancy_tree.specs.Sets.{has, differ, AreRising}
+use Rattle.fancy_tree.specs.Sets.{has, differ, is_odd, AreRising}
+use Rattle.fancy_tree.specs.SetViews.{Cut}
+use Rattle.fancy_tree.proofs.EdgesLemmas.{has_cut, cut_next, is_odd-suc}
 use Rattle.fancy_bytes.specs.Items.{some_below, encoding, includes, is_item, is_in_each, is_in_all}
-use Rattle.fancy_bytes.proofs.BoolLemmas.{parts_of, or_assoc, or_nothing, and_assoc, and_nothing, and_never, both_hold, some_below_from, le_holds, le_test, le_fails}
+use Rattle.fancy_bytes.proofs.BoolLemmas.{parts_of, or_assoc, or_nothing, and_assoc, and_nothing, and_never, both_hold, some_below_from, le_holds, le_test, le_fails, lt_holds}
 use Rattle.fancy_bytes.proofs.ItemLemmas.{none_below}
 
 drop_past : (es : List ℕ) (i : ℕ) → length es ≤ i → drop i es ≡ []
@@ -51,68 +53,49 @@ includes_done bs b i now w le before = sym (or_nothing now) ∙ sym (ap (λ (x :
 
 -- members between two numbers
 
-le_next : (e c : ℕ) → (e ≡ suc c → ⊥) → nat_le e (suc c) ≡ nat_le e c
-le_next e c other = grind (arith, nat_tests)
-
--- a set changes at an edge alone
-changed : (es : List ℕ) (c : ℕ) → (has es (suc c) ≡ has es c) ⊎ ((k : ℕ) × (k < length es) × (get_or es k 0 ≡ suc c))
-unfolding has
-changed [] c = inl refl
-changed (e ∷ es) c =
-    elim (cases_eq e (suc c)) [
-      | inl same ↦ inr (0, omega arith, same)
-      | inr other ↦ elim (changed es c) [
-        | inl h ↦ inl (ap₂ differ (le_next e c other) h)
-        | inr k ↦ inr (suc k.0, omega (arith, k.1), k.2)
-      ]
+not_after : (es : List ℕ) (i k : ℕ) → AreRising es → i ≤ k → k < length es → slice_index es i ≤ slice_index es k
+not_after es i k rising le lt =
+    elim (cases_eq i k) [
+      | inl same ↦ rw same (le_refl _)
+      | inr other ↦ let less = rising i k (omega arith) lt in omega arith
     ]
 
--- no edge after the first number and before the last is a member
-abbrev pub NoEdgeIn : List ℕ → ℕ → ℕ → ℕ → Type 0
-NoEdgeIn es first last n = (k : ℕ) → k < n → first < get_or es k 0 → get_or es k 0 < last → has es (get_or es k 0) ≡ false
+-- where the number of edges up to a number is even
+module _ (es : List ℕ) (from i : ℕ) (rising : AreRising es) (cut : Cut es i (from + 1)) (even : is_odd i ≡ false) where
+  -- there is no member up to the next edge
+  pub out_to : (c : ℕ) → from ≤ c → (i < length es → c < slice_index es i) → has es c ≡ false
+  out_to c low past =
+      has_cut es i c (cut_next (c + 1) cut (omega (arith, low)) (λ k le below. let up = not_after es i k rising le below in let beyond = past (omega (arith, le, below)) in omega arith)) ∙ even
 
-stays_out : (es : List ℕ) (first last d : ℕ) → has es first ≡ false → NoEdgeIn es first last (length es) → first + d < last → has es (first + d) ≡ false
-stays_out es first last zero out none lt = let start : first + zero ≡ first = omega arith in ap (has es) start ∙ out
-stays_out es first last (suc d) out none lt =
-    let next : first + suc d ≡ suc (first + d) = omega arith in
-    ap (has es) next
-    ∙ elim (changed es (first + d)) [
-      | inl same ↦ same ∙ stays_out es first last d out none (omega arith)
-      | inr edge ↦ ap (has es) (sym edge.2) ∙ none edge.0 edge.1 (omega (arith, edge.2)) (omega (arith, edge.2))
-    ]
+  -- which is a member
+  pub next_is : i < length es → has es (slice_index es i) ≡ true
+  next_is here =
+      let odd : i + 1 ≡ suc i = omega arith in
+      has_cut es (i + 1) (slice_index es i) (record {
+        count = omega (arith, here);
+        before = λ k lt. let up = not_after es k i rising (omega (arith, lt)) here in omega (arith, up);
+        after = λ k le below. let up = rising i k (omega (arith, le)) below in omega (arith, up);
+      })
+      ∙ ap is_odd odd ∙ is_odd-suc i ∙ ap not even
 
-out_between : (es : List ℕ) (first last c : ℕ) → has es first ≡ false → NoEdgeIn es first last (length es) → c < last → (nat_le first c && has es c) ≡ false
-out_between es first last c out none lt = by_order (nat_le first c) refl where
-  by_order : (t : Bool) → nat_le first c ≡ t → (t && has es c) ≡ false
-  by_order false e = refl
-  by_order true e =
-      let from : first ≤ c = le_holds first c e in
-      let there : c ≡ first + (c - first) = omega arith in
-      ap (has es) there ∙ stays_out es first last (c - first) out none (omega arith)
+-- some number from the first on and before the last is a member, or none
 
-pub no_member : (es : List ℕ) (first last n : ℕ) → length es ≤ n → has es first ≡ false → NoEdgeIn es first last n → false ≡ some_below last (λ c. nat_le first c && has es c)
-no_member es first last n le out none =
-    sym (none_below last (λ c. nat_le first c && has es c)
-    (λ c lt. out_between es first last c out (λ k below after before. none k (omega arith) after before) lt))
-
-pub no_number : (es : List ℕ) (first last : ℕ) → last ≤ first → false ≡ some_below last (λ c. nat_le first c && has es c)
-no_number es first last le =
-    sym (none_below last (λ c. nat_le first c && has es c) (λ c lt. let test : nat_le first c ≡ false = grind (arith, nat_tests) in ap (λ t. t && has es c) test))
+pub no_member : (es : List ℕ) (first last : ℕ) → ((c : ℕ) → first ≤ c → c < last → has es c ≡ false) → false ≡ some_below last (λ c. nat_le first c && has es c)
+no_member es first last none = sym (none_below last (λ c. nat_le first c && has es c) (λ c lt. by_order c lt (nat_le first c) refl)) where
+  by_order : (c : ℕ) → c < last → (t : Bool) → nat_le first c ≡ t → (t && has es c) ≡ false
+  by_order c lt false e = refl
+  by_order c lt true e = none c (le_holds first c e) lt
 
 pub one_between : (es : List ℕ) (first last c : ℕ) → first ≤ c → c < last → has es c ≡ true → true ≡ some_below last (λ c. nat_le first c && has es c)
 one_between es first last c from lt e =
     sym (some_below_from last (λ c. nat_le first c && has es c) c lt (both_hold (nat_le first c) (has es c) (grind (arith, nat_tests)) e))
 
--- an edge that is not before the last number, and so none after it is
-pub no_edge_past : (es : List ℕ) (first last i : ℕ) → AreRising es → NoEdgeIn es first last i → last ≤ get_or es i 0 → NoEdgeIn es first last (length es)
-no_edge_past es first last i rising before past k lt from below =
-    elim (cases_lt k i) [
-      | inl less ↦ before k less from below
-      | inr more ↦ elim (cases_eq k i) [
-        | inl same ↦ absurd (omega (arith, past, rw same at below))
-        | inr other ↦ absurd (omega (arith, past, below, rising i k (omega arith) lt))
-      ]
-    ]
+pub first_tells : (es : List ℕ) (first last n : ℕ) → first ≤ n → ((c : ℕ) → first ≤ c → c < n → has es c ≡ false) → has es n ≡ true →
+    nat_lt n last ≡ some_below last (λ c. nat_le first c && has es c)
+first_tells es first last n from none is = by_order (nat_lt n last) refl where
+  by_order : (t : Bool) → nat_lt n last ≡ t → t ≡ some_below last (λ c. nat_le first c && has es c)
+  by_order false e = no_member es first last (λ c low lt. none c low (grind (arith, nat_tests, e, lt)))
+  by_order true e = one_between es first last n from (lt_holds n last e) is
 
 -- what all members have
 

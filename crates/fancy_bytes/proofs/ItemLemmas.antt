@@ -168,3 +168,21 @@ first_among test b first last are within =
     let bounds = in_bounds first last c (sym (are c) ∙ both.0) in
     some_below_from last (λ c. nat_le first c && test c) c bounds.1
     (both_hold (nat_le first c) (test c) (le_test first c bounds.0) both.1))
+
+-- an ASCII byte is that of the character with its number
+pub ascii_first : (test : ℕ → Bool) (b : ℕ) → (nat_lt b 128 && test b) ≡ (nat_lt b 128 && first_of_characters test b)
+ascii_first test b = by_order (nat_lt b 128) refl where
+  own : b < 128 → test b ≡ some_below (b + 1) (λ c. nat_le b c && test c)
+  own lt =
+      same_truths _ _ (λ e. some_below_from (b + 1) (λ c. nat_le b c && test c) b (omega arith) (both_hold (nat_le b b) (test b) (le_test b b (omega arith)) e))
+      (λ e.
+      let found = some_found (b + 1) (λ c. nat_le b c && test c) e in
+      let both = parts_of (nat_le b found.0) (test found.0) found.2 in
+      let same : b ≡ found.0 = omega (arith, le_holds b found.0 both.0, found.1) in
+      ap test same ∙ both.1)
+
+  by_order : (t : Bool) → nat_lt b 128 ≡ t → (t && test b) ≡ (t && first_of_characters test b)
+  by_order false e = refl
+  by_order true e =
+      let lt : b < 128 = lt_holds b 128 e in
+      own lt ∙ first_among test b b (b + 1) (λ c. from_ascii c b lt) (within_codes (b + 1) (omega (arith, lt)))

@@ -6,3 +6,4 @@ pub mod Required
 pub mod Lists
 pub mod Lacks
 pub mod Openings
+pub mod Reads

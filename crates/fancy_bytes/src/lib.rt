@@ -2,8 +2,10 @@
 #![tactic(auto)]
 
 pub mod byte_set;
+pub mod edges;
 pub mod lacking;
 pub mod members;
 pub mod opening;
+pub mod reads;
 pub mod required;
 pub mod start;

@@ -3,8 +3,7 @@
 ghost use Rattle.std.specs.Prelude.{◌≡◌, ℕ, ◌+◌, ◌<◌, ◌≤◌, ◌||◌, ◌==◌, ◌&&◌, nat_le, nat_lt, map, encode_utf8};
 ghost use Rattle.fancy_tree.specs.Pattern.{pattern_of};
 ghost use Rattle.fancy_tree.specs.Members.{edges_of};
-ghost use Rattle.fancy_tree.specs.Sets.{has, AreRising};
-ghost use Rattle.fancy_tree.specs.SetViews.{Cut};
+ghost use Rattle.fancy_tree.specs.Sets.{has};
 ghost use Rattle.fancy_input.specs.Places.{is_scalar};
 ghost use Rattle.fancy_bytes.specs.Items.{first_of_items, first_of_characters, only, starts_with_byte, some_below};
 ghost use Rattle.fancy_bytes.specs.Firsts.{nullable, has_keep_start, AreStartBytes, first_bytes, has_no_turn};
@@ -12,6 +11,7 @@ ghost use Rattle.fancy_bytes.specs.Lists.{all_nullable, some_nullable, some_keep
 ghost use Rattle.fancy_bytes.specs.Sets.{AddsBytes, IsSetOf};
 
 use crate::byte_set::ByteSet;
+use crate::edges::{add_ascii, next_member};
 use fancy_tree::set::Set;
 use fancy_tree::tree::{Meaning, Tree};
 
@@ -187,7 +187,8 @@ fn characters_of(byte: u8) -> (u32, u32)
     }
 }
 
-fn add_first_of_character(c: char, meaning: Meaning, set: &mut ByteSet)
+/// Adds the first byte of the item that a character is.
+pub(crate) fn add_first_of_character(c: char, meaning: Meaning, set: &mut ByteSet)
     ensures { AddsBytes (first_of_items meaning (only c)) set.old set.new }
 {
     match meaning {
@@ -218,51 +219,21 @@ fn lead_byte(c: char) -> u8
     }
 }
 
-/// How many edges are at most `c`.
-fn edges_to(edges: &[u32], c: u32) -> usize
-    requires { AreRising edges.now }
-    ensures { Cut edges.now result (c + 1) }
-{
-    let mut low = 0;
-    let mut high = edges.len();
-    while low < high {
-        let middle = low + (high - low) / 2;
-        if edges[middle] <= c {
-            low = middle + 1;
-        } else {
-            high = middle;
-        }
-    }
-    low
-}
-
-/// Whether a number from the first on and before the last is a member: the first is one, or an edge between them
-/// is. A set changes at its edges alone, and where the first number is none, the next edge is a member: so this looks
-/// at one edge.
+/// Whether a number from the first on and before the last is a member.
 fn has_member(items: &Set, first: u32, last: u32) -> bool
     ensures { result ≡ some_below last (λ c. nat_le first c && has (edges_of items.now) c) }
 {
     if last <= first {
         return false;
     }
-    if items.contains(first) {
-        return true;
+    match next_member(items.edges(), first) {
+        None => false,
+        Some(member) => member < last,
     }
-    let edges = items.edges();
-    for i in edges_to(edges, first)..edges.len() {
-        let edge = edges[i];
-        if last <= edge {
-            return false;
-        }
-        if items.contains(edge) {
-            return true;
-        }
-    }
-    false
 }
 
 /// Adds the first bytes of the items of a set.
-fn add_first_of_set(items: &Set, meaning: Meaning, set: &mut ByteSet)
+pub(crate) fn add_first_of_set(items: &Set, meaning: Meaning, set: &mut ByteSet)
     ensures { AddsBytes (first_of_items meaning (has (edges_of items.now))) set.old set.new }
 {
     match meaning {
@@ -293,7 +264,8 @@ fn is_first(items: &Set, byte: u8) -> bool
 fn add_leads_of_set(items: &Set, set: &mut ByteSet)
     ensures { AddsBytes (first_of_characters (has (edges_of items.now))) set.old set.new }
 {
-    for byte in 0..256u32 {
+    add_ascii(items.edges(), set);
+    for byte in 0x80..256u32 {
         if is_first(items, byte as u8) {
             set.insert(byte as u8);
         }

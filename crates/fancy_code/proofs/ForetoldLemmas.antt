@@ -23,9 +23,9 @@ use Rattle.fancy_code.specs.Instructions.{Instruction, Fail, Character, Member, 
 use Rattle.fancy_code.specs.Run.{Raw, Note, Stop, Sign, choice_opened, returned, fetched, Go, AllStops, before, join, onward, instr_at, act, run, erase, Foretells}
 use Rattle.fancy_code.specs.Compile.{IsCodeOf, depth}
 use Rattle.fancy_input.specs.Lines.{is_line_feed}
-use Rattle.fancy_prefilter.specs.NextOpening.{IsWithinLine}
+use Rattle.fancy_prefilter.specs.NextOpening.{FollowsNone}
 use Rattle.fancy_prefilter.specs.Rows.{Wider, HasEncoding, HasItems, HasNone}
-use Rattle.fancy_code.specs.Foretold.{Foretold, ForetoldPast, AreForetold, IsAnchored, StartsLines}
+use Rattle.fancy_code.specs.Foretold.{Foretold, ForetoldPast, AreForetold, IsAnchored}
 use Rattle.fancy_meaning.specs.Search.{Query, answer_at, context_of, initial}
 use Rattle.fancy_meaning.proofs.BeginLemmas.{accepted_holds}
 use Rattle.fancy_meaning.proofs.OpenLemmas.{unit_wide}
@@ -135,7 +135,7 @@ encoding_short Bytes c = omega arith
 encoding_short AsciiText c = omega (arith, length-encode c, (len_utf8_bounds c).1)
 
 -- a byte of an item
-item_byte : (haystack bytes rest : List ℕ) (p i : ℕ) → drop p haystack ≡ bytes ++ rest → i < length bytes → slice_index haystack (p + i) ≡ slice_index bytes i
+pub item_byte : (haystack bytes rest : List ℕ) (p i : ℕ) → drop p haystack ≡ bytes ++ rest → i < length bytes → slice_index haystack (p + i) ≡ slice_index bytes i
 item_byte haystack bytes rest p i e lt = sym (get_or-drop p haystack i 0) ∙ ap (λ (l : List ℕ). slice_index l i) e ∙ get_or_append_left bytes rest 0 i lt
 
 -- rows that have more
@@ -388,12 +388,9 @@ line_fails : (x : Context) (q : ℕ) → (slice_index x.haystack q ≡ 10 → �
 unfolding holds
 line_fails x q other = ap (λ (b : Bool). b || is_line_feed (slice_get x.haystack q)) (ne_eqb (suc q) 0 (λ e. omega (arith, e))) ∙ no_feed x.haystack q other
 
-pub within_line : (x : Context) (code : List Instruction) (start : ℕ) (o : Option ByteFlags) → IfSome o (λ set. StartsLines set code start) → (p : ℕ) → IsWithinLine o x.haystack p
-    → IsAnchored code LineStart start × (holds x LineStart p ≡ false)
-within_line x code start None told p within = absurd within
-within_line x code start (Some set) told zero within = absurd within
-within_line x code start (Some set) told (suc q) within =
-    (told.1, line_fails x q (λ e. true≢false (sym told.0 ∙ sym (ap (member set) e) ∙ within)))
+pub within_line : (x : Context) (set : ByteFlags) → member set 10 ≡ true → (p : ℕ) → FollowsNone set x.haystack p → holds x LineStart p ≡ false
+within_line x set feed zero within = absurd within
+within_line x set feed (suc q) within = line_fails x q (λ e. true≢false (sym feed ∙ sym (ap (member set) e) ∙ within))
 
 -- code that goes on only where an assertion holds
 

@@ -24,3 +24,6 @@ pub mod ChoosingLemmas
 pub mod EndLemmas
 pub mod TextLemmas
 pub mod BranchingLemmas
+pub mod ToldLemmas
+pub mod StayLemmas
+pub mod RegionLemmas

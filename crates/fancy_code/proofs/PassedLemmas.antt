@@ -3,20 +3,23 @@ use Rattle.std.proofs.Common.{◌≡◌, ℕ, ◌+◌, ◌-◌, ◌<◌, ◌≤�
 use Rattle.std.specs.Prelude.{IfSome}
 use Rattle.fancy_bytes.specs.Openings.{opening, StandsBefore}
 use Rattle.fancy_tree.specs.declared.tree.Assertion.TheVariants.{TextStart, LineStart}
-use Rattle.fancy_prefilter.specs.NextOpening.{LacksOpening, StartsNot, by_byte, by_start, by_line, by_opening}
+use Rattle.fancy_prefilter.specs.NextOpening.{LacksOpening, StartsNot, by_byte, by_anchor, by_opening, by_text, IsOffAnchor}
 use Rattle.fancy_prefilter.specs.Prefilters.{text_in, window_in, branches_in}
+use Rattle.fancy_prefilter.specs.declared.prefilter.Anchor.{Anchor}
+use Rattle.fancy_prefilter.specs.declared.prefilter.Anchor.TheVariants.{Anywhere, AtStart, AtLines}
 use Rattle.fancy_prefilter.specs.declared.prefilter.Opening.{Opening}
 use Rattle.fancy_prefilter.specs.declared.prefilter.Opening.TheVariants.{Untold, Text, Window, Sets, Words}
 use Rattle.fancy_code.specs.declared.code.Code.{Code}
 use Rattle.fancy_code.specs.Branches.{AreBranches}
 use Rattle.fancy_code.specs.Code.{instrs_of}
 use Rattle.fancy_code.specs.Compile.{IsCodeOf}
-use Rattle.fancy_code.specs.Foretold.{AreForetold}
+use Rattle.fancy_code.specs.Foretold.{AreForetold, StartsAt}
 use Rattle.fancy_meaning.specs.Search.{Query, answer_at, answer_from, context_of}
 use Rattle.fancy_code.proofs.ForetoldLemmas.{none_foretold, none_anchored, none_branched, start_fails, within_line}
 use Rattle.fancy_meaning.proofs.OpenLemmas.{opening_stands}
 use Rattle.fancy_meaning.proofs.SearchLemmas.{is-no_answer}
 use Rattle.fancy_meaning.proofs.SkipLemmas.{skip_none}
+use Rattle.fancy_code.proofs.RegionLemmas.{none_required}
 use Rattle.fancy_code.proofs.StartLemmas.{none_starts}
 
 module _ (q : Query) (code : Code) (is : IsCodeOf q.sought.pattern code) (meant : q.sought.meaning ≡ code.meaning) (inside : q.request.range_end ≤ length q.haystack)
@@ -34,12 +37,17 @@ module _ (q : Query) (code : Code) (is : IsCodeOf q.sought.pattern code) (meant 
   none_opens (Sets sets) opens told branched p le lacks = none_foretold q code is meant inside bytes sets.items told p le lacks
   none_opens (Words b) opens foretold told p le lacks = none_branched q code is meant inside bytes b told p le lacks
 
+  -- where the anchor says that none starts
+  none_off : (a : Anchor) → StartsAt a (instrs_of code) code.start → (p : ℕ) → p ≤ q.request.range_end → IsOffAnchor a q.haystack p → answer_at q p ≡ None
+  none_off Anywhere told p le off = absurd off
+  none_off AtStart told p le off = none_anchored q code is meant inside TextStart told p le (start_fails (context_of q) p off)
+  none_off (AtLines set) told p le off =
+      none_anchored q code is meant inside LineStart told.1 p le (within_line (context_of q) set told.0 p off)
+
   starts_not : (p : ℕ) → p ≤ q.request.range_end → StartsNot code.prefilter q.haystack q.request.range_end p → answer_at q p ≡ None
   starts_not p le (by_byte never) = none_starts q code.prefilter.starts (rw meant is.starts) bytes p never
-  starts_not p le (by_start only past) = none_anchored q code is meant inside TextStart (is.anchored only) p le (start_fails (context_of q) p past)
-  starts_not p le (by_line within) =
-      let line = within_line (context_of q) (instrs_of code) code.start code.prefilter.lines is.lines p within in
-      none_anchored q code is meant inside LineStart line.0 p le line.1
+  starts_not p le (by_anchor off) = none_off code.prefilter.anchor is.anchored p le off
+  starts_not p le (by_text lacks) = none_required q inside bytes p le code.prefilter.region (rw meant is.required) lacks
   starts_not p le (by_opening lacks) = none_opens code.prefilter.opening is.opens is.foretold is.branched p le lacks
 
   -- positions where no match starts may be passed over

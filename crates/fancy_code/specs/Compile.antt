@@ -17,8 +17,8 @@ use Rattle.fancy_meaning.specs.Easy.{is_easy}
 use Rattle.fancy_code.specs.Code.{instrs_of}
 use Rattle.fancy_code.specs.Branches.{AreBranches}
 use Rattle.fancy_prefilter.specs.Prefilters.{text_in, window_in, branches_in}
-use Rattle.fancy_tree.specs.declared.tree.Assertion.TheVariants.{TextStart}
-use Rattle.fancy_code.specs.Foretold.{AreForetold, IsAnchored, StartsLines}
+use Rattle.fancy_required.specs.Regions.{IsRequired}
+use Rattle.fancy_code.specs.Foretold.{AreForetold, StartsAt}
 use Rattle.fancy_code.specs.Run.{instr_at}
 
 -- the instruction stands at q
@@ -255,9 +255,9 @@ pub record IsCodeOf (p : Pattern) (code : Code) : Type 0 where
   pub starts : AreStartBytes code.meaning p code.prefilter.starts
   pub opens : IfSome (text_in code.prefilter.opening) (λ text. text ≡ opening code.meaning p)
   pub foretold : IfSome (window_in code.prefilter.opening) (λ sets. AreForetold sets code)
-  pub anchored : code.prefilter.only_at_start ≡ true → IsAnchored (instrs_of code) TextStart code.start
-  pub lines : IfSome code.prefilter.lines (λ set. StartsLines set (instrs_of code) code.start)
+  pub anchored : StartsAt code.prefilter.anchor (instrs_of code) code.start
   pub branched : HasBranches code
+  pub required : IfSome code.prefilter.region (IsRequired code.meaning p)
 
 -- An instruction that reads neither captures nor where groups began, and that ends no way early.
 abbrev pub IsEasyInstr : Instruction → Type 0

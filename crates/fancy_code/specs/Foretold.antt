@@ -2,9 +2,11 @@
 use Rattle.std.specs.Prelude.{◌≡◌, ℕ, ◌+◌, ◌<◌, ◌≤◌, ◌==◌, ◌||◌, Bool, true, false, List, length, Some, slice_get, slice_index}
 use Rattle.std.specs.Global.{Vec}
 use Rattle.fancy_tree.specs.declared.tree.Assertion.{Assertion}
-use Rattle.fancy_tree.specs.declared.tree.Assertion.TheVariants.{LineStart}
+use Rattle.fancy_tree.specs.declared.tree.Assertion.TheVariants.{TextStart, LineStart}
 use Rattle.fancy_tree.specs.declared.tree.Meaning.{Meaning}
 use Rattle.fancy_bytes.specs.Sets.{ByteFlags, member}
+use Rattle.fancy_prefilter.specs.declared.prefilter.Anchor.{Anchor}
+use Rattle.fancy_prefilter.specs.declared.prefilter.Anchor.TheVariants.{Anywhere, AtStart, AtLines}
 use Rattle.fancy_prefilter.specs.Windows.{StandsFrom}
 use Rattle.fancy_code.specs.Code.{instrs_of}
 use Rattle.fancy_meaning.specs.Context.{Context, State, holds, moved_to, past_item}
@@ -52,6 +54,12 @@ GoesOnAtEnds code q = (a : Assertion) × HoldsAtEnds a × IsAnchored code a q
 -- the code goes on from an instruction at line starts alone, and the set has line feeds
 abbrev pub StartsLines : ByteFlags → List Instruction → ℕ → Type 0
 StartsLines set code start = (member set 10 ≡ true) × IsAnchored code LineStart start
+
+-- the code goes on only where the anchor says that matches start
+abbrev pub StartsAt : Anchor → List Instruction → ℕ → Type 0
+StartsAt Anywhere code start = Unit {0}
+StartsAt AtStart code start = IsAnchored code TextStart start
+StartsAt (AtLines set) code start = StartsLines set code start
 
 -- one row for each of these instructions: the sets of the bytes at the first places of what is consumed from it on
 pub record AreRows (code : List Instruction) (m : Meaning) (heads : List ℕ) (rows : List (Vec ByteFlags)) : Type 0 where

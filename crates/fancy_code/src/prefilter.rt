@@ -15,7 +15,7 @@ use crate::branching::branches_of;
 use crate::code::{Code, Instr};
 use fancy_bytes::byte_set::ByteSet;
 use fancy_prefilter::items::{Sizes, add_character, add_members, has_size, is_small, size_of};
-use fancy_prefilter::prefilter::Opening;
+use fancy_prefilter::prefilter::{Anchor, Opening};
 use fancy_prefilter::rows::{are_apart, are_telling, empty_sets};
 use fancy_prefilter::scan::Scan;
 use fancy_prefilter::window::Window;
@@ -367,7 +367,7 @@ fn with_lines(code: Code) -> Code
         return code;
     }
     let mut code = code;
-    code.prefilter.lines = Some(line_feeds());
+    code.prefilter.anchor = Anchor::AtLines(line_feeds());
     code
 }
 
@@ -380,7 +380,7 @@ pub(crate) fn with_starts(alloc: Global, code: Code) -> Result<Code, AllocError>
 {
     let mut code = code;
     if starts_at(&code, Assertion::TextStart) {
-        code.prefilter.only_at_start = true;
+        code.prefilter.anchor = Anchor::AtStart;
         return Ok(code);
     }
     let code = with_opening(alloc, code)?;

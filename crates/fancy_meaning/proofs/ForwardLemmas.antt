@@ -40,7 +40,7 @@ past_item-past x test p =
       | Some u ↦ elim (test u.code) as (λ b. PastIs p (if b then Some (p + u.width) else None)) [ true ↦ omega arith | false ↦ tt ]
     ]
 
-LeadsOn-stay : (limit : ℕ) → LeadsOn limit stay
+pub LeadsOn-stay : (limit : ℕ) → LeadsOn limit stay
 LeadsOn-stay limit s h = (record { from = le_refl s.place; to = h }, tt)
 
 LeadsOn-move : (limit : ℕ) (s : State) (past : Option ℕ) → PastIs s.place past → EachOutcome (IsBetween s.place limit) (move limit s past)
@@ -49,7 +49,7 @@ LeadsOn-move limit s None h = tt
 LeadsOn-move limit s (Some p) h =
     EachOutcome-only_if _ (nat_le p limit) _ (λ e. (record { from = h; to = leb-true p limit e }, tt))
 
-LeadsOn-holding : (limit : ℕ) (b : Bool) → LeadsOn limit (holding b)
+pub LeadsOn-holding : (limit : ℕ) (b : Bool) → LeadsOn limit (holding b)
 LeadsOn-holding limit b s h = EachOutcome-only_if _ b _ (λ e. LeadsOn-stay limit s h)
 
 pub past_byte-past : (x : Context) (byte p : ℕ) → PastIs p (past_byte x byte p)
@@ -117,19 +117,19 @@ LeadsOn-bind limit walk next here later s h =
     EachOutcome-bind (IsBetween s.place limit) (IsBetween s.place limit) (walk s) next (here s h)
     (λ t b. EachOutcome_imp _ _ (next t) (λ u c. record { from = le_trans b.from c.from; to = c.to }) (later t b.to))
 
-LeadsOn-copies : (limit n : ℕ) (body rest : Walk) → LeadsOn limit body → LeadsOn limit rest → LeadsOn limit (copies n body rest)
+pub LeadsOn-copies : (limit n : ℕ) (body rest : Walk) → LeadsOn limit body → LeadsOn limit rest → LeadsOn limit (copies n body rest)
 LeadsOn-copies limit zero body rest a b s h = b s h
 LeadsOn-copies limit (suc n) body rest a b s h =
     LeadsOn-bind limit body (copies n body rest) a (LeadsOn-copies limit n body rest a b) s h
 
-LeadsOn-optionals : (greedy : Bool) (limit n : ℕ) (body : Walk) → LeadsOn limit body → LeadsOn limit (optionals greedy n body)
+pub LeadsOn-optionals : (greedy : Bool) (limit n : ℕ) (body : Walk) → LeadsOn limit body → LeadsOn limit (optionals greedy n body)
 LeadsOn-optionals greedy limit zero body a s h = LeadsOn-stay limit s h
 LeadsOn-optionals greedy limit (suc n) body a s h =
     EachOutcome-prefer _ greedy _ _
     (LeadsOn-bind limit body (optionals greedy n body) a (LeadsOn-optionals greedy limit n body a) s h)
     (LeadsOn-stay limit s h)
 
-LeadsOn-turns : (greedy : Bool) (limit n : ℕ) (body : Walk) → LeadsOn limit body → LeadsOn limit (turns greedy n body)
+pub LeadsOn-turns : (greedy : Bool) (limit n : ℕ) (body : Walk) → LeadsOn limit body → LeadsOn limit (turns greedy n body)
 LeadsOn-turns greedy limit zero body a s h = tt
 LeadsOn-turns greedy limit (suc n) body a s h =
     EachOutcome-prefer _ greedy _ _
@@ -139,19 +139,20 @@ LeadsOn-turns greedy limit (suc n) body a s h =
     (LeadsOn-turns greedy limit n body a t b.to))))
     (LeadsOn-stay limit s h)
 
-LeadsOn-repeated : (greedy : Bool) (limit low : ℕ) (high : Option ℕ) (body : Walk) → LeadsOn limit body →
-    LeadsOn limit (repeated greedy limit low high body)
-LeadsOn-repeated greedy limit low None body a =
-    LeadsOn-copies limit low body (star greedy limit body) a (λ s h. LeadsOn-turns greedy limit (suc (limit - s.place)) body a s h)
-LeadsOn-repeated greedy limit low (Some high) body a =
-    LeadsOn-copies limit low body (optionals greedy (high - low) body) a (LeadsOn-optionals greedy limit (high - low) body a)
+-- turns of a body that stays within a bound do so, whatever the limit
+pub LeadsOn-repeated : (greedy : Bool) (limit bound low : ℕ) (high : Option ℕ) (body : Walk) → LeadsOn bound body →
+    LeadsOn bound (repeated greedy limit low high body)
+LeadsOn-repeated greedy limit bound low None body a =
+    LeadsOn-copies bound low body (star greedy limit body) a (λ s h. LeadsOn-turns greedy bound (suc (limit - s.place)) body a s h)
+LeadsOn-repeated greedy limit bound low (Some high) body a =
+    LeadsOn-copies bound low body (optionals greedy (high - low) body) a (LeadsOn-optionals greedy bound (high - low) body a)
 
 pub LeadsOn-by_kind : (P : State → Type 0) (kind : RepeatKind) (es : List Event) → EachOutcome P es → EachOutcome P (by_kind kind es)
 LeadsOn-by_kind P Greedy es a = a
 LeadsOn-by_kind P Lazy es a = a
 LeadsOn-by_kind P Possessive es a = EachOutcome-guarded P P any stay [] es a (λ s h. (h, tt)) tt
 
-LeadsOn-looked : (limit : ℕ) (negated behind : Bool) (s : State) (es : List Event) → s.place ≤ limit →
+pub LeadsOn-looked : (limit : ℕ) (negated behind : Bool) (s : State) (es : List Event) → s.place ≤ limit →
     EachOutcome (IsBetween s.place limit) (looked negated behind s es)
 LeadsOn-looked limit true behind s es h =
     EachOutcome-guarded (λ t. Unit {0}) (IsBetween s.place limit) (ends_look behind s.place) (λ t. []) (return ∷ stay s) es
@@ -177,7 +178,7 @@ LeadsOn-trace x limit (group index body) s h =
     EachOutcome-bind (IsBetween s.place limit) _ (trace x limit body s) _ (LeadsOn-trace x limit body s h)
     (λ t b. (record { from = b.from; to = b.to }, tt))
 LeadsOn-trace x limit (repeat low high kind body) s h =
-    LeadsOn-by_kind _ kind _ (LeadsOn-repeated (is_greedy kind) limit low high (trace x limit body) (LeadsOn-trace x limit body) s h)
+    LeadsOn-by_kind _ kind _ (LeadsOn-repeated (is_greedy kind) limit limit low high (trace x limit body) (LeadsOn-trace x limit body) s h)
 LeadsOn-trace x limit (look_ahead negated body) s h = LeadsOn-looked limit negated false s _ h
 LeadsOn-trace x limit (look_behind negated body) s h = LeadsOn-looked limit negated true s _ h
 LeadsOn-trace x limit (atomic body) s h =

@@ -1,13 +1,11 @@
 -- The bytes of items.
-use Rattle.std.proofs.Common.{◌≡◌, ℕ, zero, suc, ◌+◌, ◌%◌, ◌<◌, ◌≤◌, ◌==◌, Bool, true, false, not, List, [], ◌∷◌, length, inl, inr, refl, sym, ap, ◌∙◌, arith, slice_index, eqb-true, true≢false}
+use Rattle.std.proofs.Common.{◌≡◌, ℕ, zero, suc, ◌+◌, ◌%◌, ◌<◌, ◌≤◌, ◌==◌, Bool, true, false, not, List, [], ◌∷◌, length, inl, inr, refl, sym, ap, ◌∙◌, arith, slice_index, eqb-true}
 use Rattle.std.proofs.lemmas.Bool.Decides.{nat_tests}
 use Rattle.std.proofs.lemmas.Bool.{cases_lt, le-leb}
 use Rattle.std.proofs.lemmas.Str.{length-encode, len_utf8_bounds}
 use Rattle.std.specs.Char.{len_utf8, encode_utf8}
 use Rattle.fancy_tree.specs.Sets.{has, differ, is_odd}
 use Rattle.fancy_bytes.specs.Sets.{ByteFlags, member}
-use Rattle.fancy_bytes.proofs.BoolLemmas.{both_hold, le_test, some_below_from}
-use Rattle.fancy_bytes.proofs.EdgeLemmas.{NoEdgeIn, no_member}
 use Rattle.fancy_prefilter.specs.Windows.{set_at}
 use Rattle.fancy_prefilter.specs.Rows.{HasEncoding, Wider}
 
@@ -41,14 +39,6 @@ pub none_past : (es : List ℕ) (c : ℕ) → (length es % 2 == 0) ≡ true → 
 unfolding is_odd
 none_past es c even below past =
     passed_edges es c (λ k lt. omega (arith, below k lt, past)) ∙ ap (λ (r : ℕ). r == 1) (eqb-true (length es % 2) 0 even)
-
--- no member lies between two numbers where the first is none and no edge between them is one
-pub none_between : (es : List ℕ) (first last : ℕ) → has es first ≡ false → NoEdgeIn es first last (length es) → (c : ℕ) → first ≤ c → c < last → has es c ≡ false
-none_between es first last out none c from lt = by_case (has es c) refl where
-  by_case : (b : Bool) → has es c ≡ b → has es c ≡ false
-  by_case false e = e
-  by_case true e =
-      absurd (true≢false (sym (some_below_from last _ c lt (both_hold _ (has es c) (le_test first c from) e)) ∙ sym (no_member es first last (length es) (omega arith) out none)))
 
 -- what has more sets has an item's bytes where they were
 pub wider_encoding : (old new : List ByteFlags) → Wider old new → (from : ℕ) (exact : Bool) (bytes : List ℕ) → HasEncoding old from exact bytes → HasEncoding new from exact bytes

@@ -5,5 +5,6 @@ pub mod MarkLemmas
 pub mod ProbeLemmas
 pub mod KeyLemmas
 pub mod StandsLemmas
+pub mod RegionLemmas
 pub mod ItemBytesLemmas
 pub mod NextLemmas

@@ -2,9 +2,11 @@
 use Rattle.std.proofs.Common.{◌≡◌, ℕ, zero, suc, ◌+◌, ◌<◌, ◌≤◌, true, inl, inr, List, Option, Some, None, sym, subst, ◌∙◌, arith, true≢false}
 use Rattle.std.proofs.lemmas.Bool.{cases_lt}
 use Rattle.fancy_bytes.specs.Sets.{ByteFlags}
-use Rattle.fancy_prefilter.specs.NextOpening.{FollowsNone, IsWithinLine, LacksOpening, StartsNot, by_byte, by_start, by_line, by_opening, IsNextOpening}
+use Rattle.fancy_prefilter.specs.NextOpening.{FollowsNone, IsOffAnchor, LacksOpening, StartsNot, by_byte, by_anchor, by_opening, IsNextOpening}
 use Rattle.fancy_prefilter.specs.Seeks.{NoneSeenBefore}
 use Rattle.fancy_prefilter.specs.Seen.{MayStart, MayNotStart, IsNextCandidate}
+use Rattle.fancy_prefilter.specs.declared.prefilter.Anchor.{Anchor}
+use Rattle.fancy_prefilter.specs.declared.prefilter.Anchor.TheVariants.{AtStart, AtLines}
 use Rattle.fancy_prefilter.specs.declared.prefilter.Opening.{Opening}
 use Rattle.fancy_prefilter.specs.declared.prefilter.Prefilter.{Prefilter}
 
@@ -55,6 +57,19 @@ module _ (f : Prefilter) (haystack : List ℕ) (range_end from last : ℕ) where
     ];
   }
 
+  -- so it does where what else is told is asked from there on
+  pub next_on : (seen place : ℕ) → from ≤ seen → ((k : ℕ) → from ≤ k → k < seen → StartsNot f haystack range_end k) → IsNextOpening f haystack range_end seen last place
+      → IsNextOpening f haystack range_end from last place
+  next_on seen place later none next = record {
+    passed = omega (arith, next.passed, later);
+    within = next.within;
+    some = λ le never. next.some le (λ k low high. never k (omega (arith, low, later)) high);
+    none = λ k low high. elim (cases_lt k seen) [
+      | inl lt ↦ none k low lt
+      | inr ge ↦ next.none k ge high
+    ];
+  }
+
   -- where none starts at any place, there is no such place
   pub next_nowhere : from ≤ last + 1 → ((k : ℕ) → from ≤ k → StartsNot f haystack range_end k) → IsNextOpening f haystack range_end from last (last + 1)
   next_nowhere ordered none = record {
@@ -65,8 +80,8 @@ module _ (f : Prefilter) (haystack : List ℕ) (range_end from last : ℕ) where
   }
 
   -- past the text's start there is none for a match that starts there alone
-  pub next_past : from ≤ last + 1 → f.only_at_start ≡ true → 0 < from → IsNextOpening f haystack range_end from last (last + 1)
-  next_past ordered only later = next_nowhere ordered (λ k low. by_start only (omega (arith, low, later)))
+  pub next_past : from ≤ last + 1 → f.anchor ≡ AtStart → 0 < from → IsNextOpening f haystack range_end from last (last + 1)
+  next_past ordered only later = next_nowhere ordered (λ k low. by_anchor (subst (λ (a : Anchor). IsOffAnchor a haystack k) (sym only) (omega (arith, low, later))))
 
   -- a place where a match may start, where none starts before it
   pub next_may : (place : ℕ) → from ≤ place → place ≤ last → MayStart f.starts haystack range_end place → ((k : ℕ) → from ≤ k → k < place → StartsNot f haystack range_end k)
@@ -79,22 +94,22 @@ module _ (f : Prefilter) (haystack : List ℕ) (range_end from last : ℕ) where
   }
 
 -- past a place where no match starts there is none up to the next line
-pub next_line : (f : Prefilter) (set : ByteFlags) (haystack : List ℕ) (range_end from place next : ℕ) → f.lines ≡ Some set
+pub next_line : (f : Prefilter) (set : ByteFlags) (haystack : List ℕ) (range_end from place next : ℕ) → f.anchor ≡ AtLines set
     → ((k : ℕ) → from ≤ k → k < place → StartsNot f haystack range_end k) → StartsNot f haystack range_end place
     → ((k : ℕ) → place + 1 ≤ k → k < next → FollowsNone set haystack k) → (k : ℕ) → from ≤ k → k < next → StartsNot f haystack range_end k
 next_line f set haystack range_end from place next is before here after k low high =
     elim (cases_lt k place) [
       | inl lt ↦ before k low lt
       | inr ge ↦ elim (cases_lt place k) [
-        | inl past ↦ by_line (subst (λ (o : Option ByteFlags). IsWithinLine o haystack k) (sym is) (after k (omega (arith, past)) high))
+        | inl past ↦ by_anchor (subst (λ (a : Anchor). IsOffAnchor a haystack k) (sym is) (after k (omega (arith, past)) high))
         | inr le ↦ subst (λ (p : ℕ). StartsNot f haystack range_end p) (omega (arith, ge, le)) here
       ]
     ]
 
 -- no match starts before the first line
-pub first_line : (f : Prefilter) (set : ByteFlags) (haystack : List ℕ) (range_end from next : ℕ) → f.lines ≡ Some set
+pub first_line : (f : Prefilter) (set : ByteFlags) (haystack : List ℕ) (range_end from next : ℕ) → f.anchor ≡ AtLines set
     → ((k : ℕ) → from ≤ k → k < next → FollowsNone set haystack k) → (k : ℕ) → from ≤ k → k < next → StartsNot f haystack range_end k
-first_line f set haystack range_end from next is none k low high = by_line (subst (λ (o : Option ByteFlags). IsWithinLine o haystack k) (sym is) (none k low high))
+first_line f set haystack range_end from next is none k low high = by_anchor (subst (λ (a : Anchor). IsOffAnchor a haystack k) (sym is) (none k low high))
 
 -- past where no byte of the set stands no place follows one
 pub none_followed : (set : ByteFlags) (haystack : List ℕ) (from to k : ℕ) → NoneSeenBefore set haystack from to → from < k → k < to + 1 → FollowsNone set haystack k

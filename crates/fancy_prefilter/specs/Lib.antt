@@ -10,3 +10,4 @@ pub mod Prefilters
 pub mod Seen
 pub mod NextOpening
 pub mod Chosen
+pub mod Regions

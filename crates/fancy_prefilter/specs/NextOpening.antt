@@ -1,10 +1,14 @@
 -- Where a search goes on to, by all that tells where no match starts.
-use Rattle.std.specs.Prelude.{◌≡◌, ℕ, zero, suc, ◌+◌, ◌<◌, ◌≤◌, true, false, List, Option, Some, None, slice_index}
+use Rattle.std.specs.Prelude.{◌≡◌, ℕ, zero, suc, ◌+◌, ◌<◌, ◌≤◌, false, List, Option, Some, None, slice_index}
 use Rattle.fancy_bytes.specs.Sets.{ByteFlags, member}
 use Rattle.fancy_bytes.specs.Openings.{StandsBefore}
+use Rattle.fancy_prefilter.specs.Regions.{LacksText}
 use Rattle.fancy_prefilter.specs.Windows.{StandsFrom}
+use Rattle.fancy_required.specs.declared.text.RequiredText.{RequiredText}
 use Rattle.fancy_prefilter.specs.KeyTables.{NoneMayStand}
 use Rattle.fancy_prefilter.specs.Seen.{MayNotStart, NoneMayStart}
+use Rattle.fancy_prefilter.specs.declared.prefilter.Anchor.{Anchor}
+use Rattle.fancy_prefilter.specs.declared.prefilter.Anchor.TheVariants.{Anywhere, AtStart, AtLines}
 use Rattle.fancy_prefilter.specs.declared.prefilter.Opening.{Opening}
 use Rattle.fancy_prefilter.specs.declared.prefilter.Opening.TheVariants.{Untold, Text, Window, Sets, Words}
 use Rattle.fancy_prefilter.specs.declared.prefilter.Prefilter.{Prefilter}
@@ -26,17 +30,24 @@ abbrev pub FollowsNone : ByteFlags → List ℕ → ℕ → Type 0
 FollowsNone set haystack zero = ⊥
 FollowsNone set haystack (suc p) = member set (slice_index haystack p) ≡ false
 
--- each match starts at the text's start or after a byte of the set, and p is no such place
-abbrev pub IsWithinLine : Option ByteFlags → List ℕ → ℕ → Type 0
-IsWithinLine None haystack p = ⊥
-IsWithinLine (Some set) haystack p = FollowsNone set haystack p
+-- each match starts at the text's start, or there or after a byte of the set, and p is no such place
+abbrev pub IsOffAnchor : Anchor → List ℕ → ℕ → Type 0
+IsOffAnchor Anywhere haystack p = ⊥
+IsOffAnchor AtStart haystack p = 0 < p
+IsOffAnchor (AtLines set) haystack p = FollowsNone set haystack p
 
--- no match starts at p: by its first byte, since it would start past the text's start, or within a line, or by what it opens with
+-- the text that each match has in it does not stand where a match from p on might have it
+abbrev pub LacksRequired : Option RequiredText → List ℕ → ℕ → ℕ → Type 0
+LacksRequired None haystack range_end p = ⊥
+LacksRequired (Some r) haystack range_end p = LacksText r haystack range_end p
+
+-- no match starts at p: by its first byte, since it would start past the text's start or within a line, by what it opens with, or by what
+-- it has in it
 pub data StartsNot (f : Prefilter) (haystack : List ℕ) (range_end p : ℕ) : Type 0 where
   by_byte : MayNotStart f.starts haystack range_end p → StartsNot f haystack range_end p
-  by_start : f.only_at_start ≡ true → 0 < p → StartsNot f haystack range_end p
-  by_line : IsWithinLine f.lines haystack p → StartsNot f haystack range_end p
+  by_anchor : IsOffAnchor f.anchor haystack p → StartsNot f haystack range_end p
   by_opening : LacksOpening f.opening haystack range_end p → StartsNot f haystack range_end p
+  by_text : LacksRequired f.region haystack range_end p → StartsNot f haystack range_end p
 
 -- p is a place, from the one on and up to the other, at which a search may go on, since no match starts before it; or it is past both. Where no match starts by its first byte, it is past both.
 pub record IsNextOpening (f : Prefilter) (haystack : List ℕ) (range_end from last p : ℕ) : Type 0 where

@@ -7,9 +7,11 @@ ghost use Rattle.fancy_prefilter.specs.Seen.{IsNextCandidate, MayNotStart, MaySt
 
 use crate::branches::Branches;
 use crate::literal::Literal;
-use crate::prefilter::{Opening, Prefilter};
+use crate::prefilter::{Anchor, Opening, Prefilter};
+use crate::region::next_region;
 use crate::scan::Scan;
 use crate::window::Window;
+use fancy_required::text::RequiredText;
 
 /// At so many places of a line it is looked at what each match opens with.
 const PLACES: usize = 8;
@@ -223,7 +225,7 @@ fn next_by_lines(
     from: usize,
     last: usize,
 ) -> usize
-    requires lines { prefilter.now.lines ≡ Some feeds.now }
+    requires lines { prefilter.now.anchor ≡ Anchor.AtLines feeds.now }
     requires ordered { from ≤ last + 1 }
     requires last { last ≤ range_end }
     requires inside { range_end ≤ length haystack.now }
@@ -239,10 +241,9 @@ fn next_by_lines(
     place
 }
 
-/// The first position, from the one on and up to the last, at which a search goes on, past the last where there is none: no
-/// match begins before it. A match that starts at the text's start alone is tried there alone.
+/// What [`next_opening`] answers by what matches open with. A match that starts at the text's start alone is tried there alone.
 #[inline]
-pub fn next_opening(
+fn next_by_opening(
     prefilter: &Prefilter,
     haystack: &[u8],
     range_end: usize,
@@ -254,11 +255,16 @@ pub fn next_opening(
     requires inside { range_end ≤ length haystack.now }
     ensures { IsNextOpening prefilter.now haystack.now range_end from last result }
 {
-    if prefilter.only_at_start && from > 0 {
-        return last + 1;
-    }
-    if let Some(feeds) = &prefilter.lines {
-        return next_by_lines(prefilter, feeds, haystack, range_end, from, last);
+    match &prefilter.anchor {
+        Anchor::Anywhere => {}
+        Anchor::AtStart => {
+            if from > 0 {
+                return last + 1;
+            }
+        }
+        Anchor::AtLines(feeds) => {
+            return next_by_lines(prefilter, feeds, haystack, range_end, from, last);
+        }
     }
     match &prefilter.opening {
         Opening::Untold | Opening::Sets(_) => candidate_from(
@@ -272,4 +278,92 @@ pub fn next_opening(
             next_by_words(prefilter, branches, haystack, range_end, from, last)
         }
     }
+}
+
+/// What [`next_opening`] answers past the region that is known, where the last position is the range's end: one that a match may open
+/// with, up to the next text from there on.
+fn next_by_regions(
+    prefilter: &Prefilter,
+    required: &RequiredText,
+    haystack: &[u8],
+    range_end: usize,
+    from: usize,
+    region: &mut Option<usize>,
+) -> usize
+    requires region { prefilter.now.region ≡ Some required.now }
+    requires ordered { from ≤ range_end + 1 }
+    requires inside { range_end ≤ length haystack.now }
+    ensures { IsNextOpening prefilter.now haystack.now range_end from range_end result }
+{
+    let mut place = from;
+    while place <= range_end {
+        let Some((start, text)) = next_region(required, haystack, place, range_end) else {
+            return range_end + 1;
+        };
+        let opening = next_by_opening(prefilter, haystack, range_end, start, range_end);
+        if opening <= text {
+            *region = Some(text);
+            return opening;
+        }
+        place = opening;
+    }
+    range_end + 1
+}
+
+/// What [`next_opening`] answers by the text that each match has in it.
+#[inline(never)]
+fn next_in_region(
+    prefilter: &Prefilter,
+    haystack: &[u8],
+    range_end: usize,
+    from: usize,
+    last: usize,
+    region: &mut Option<usize>,
+) -> usize
+    requires ordered { from ≤ last + 1 }
+    requires last { last ≤ range_end }
+    requires inside { range_end ≤ length haystack.now }
+    ensures { IsNextOpening prefilter.now haystack.now range_end from last result }
+{
+    let Some(required) = &prefilter.region else {
+        return next_by_opening(prefilter, haystack, range_end, from, last);
+    };
+    if last < range_end {
+        return next_by_opening(prefilter, haystack, range_end, from, last);
+    }
+    if let Some(text) = *region {
+        if from <= text {
+            let opening = next_by_opening(prefilter, haystack, range_end, from, last);
+            if opening <= text {
+                return opening;
+            }
+            return next_by_regions(prefilter, required, haystack, last, opening, region);
+        }
+    }
+    next_by_regions(prefilter, required, haystack, last, from, region)
+}
+
+/// The first position, from the one on and up to the last, at which a search goes on, past the last where there is none: no
+/// match begins before it.
+///
+/// `region` keeps where the text stands up to which a match may begin that has it, from one call to the next in a search: so no byte is
+/// looked at again for that text. It is `None` for the first call.
+#[inline]
+pub fn next_opening(
+    prefilter: &Prefilter,
+    haystack: &[u8],
+    range_end: usize,
+    from: usize,
+    last: usize,
+    region: &mut Option<usize>,
+) -> usize
+    requires ordered { from ≤ last + 1 }
+    requires last { last ≤ range_end }
+    requires inside { range_end ≤ length haystack.now }
+    ensures { IsNextOpening prefilter.now haystack.now range_end from last result }
+{
+    if prefilter.region.is_none() {
+        return next_by_opening(prefilter, haystack, range_end, from, last);
+    }
+    next_in_region(prefilter, haystack, range_end, from, last, region)
 }

@@ -1,6 +1,6 @@
 //! The bytes of items, by the places at which they stand.
 
-ghost use Rattle.std.specs.Prelude.{◌≡◌, ℕ, ◌<◌, ◌≤◌, true, false, [], ◌∷◌, length, encode_utf8, MatchOption};
+ghost use Rattle.std.specs.Prelude.{◌≡◌, ℕ, ◌<◌, ◌≤◌, true, false, [], ◌∷◌, length, encode_utf8};
 ghost use Rattle.std.specs.Char.{len_utf8};
 ghost use Rattle.fancy_tree.specs.Members.{edges_of};
 ghost use Rattle.fancy_tree.specs.Sets.{has};
@@ -10,6 +10,7 @@ ghost use Rattle.fancy_prefilter.specs.Rows.{HasEncoding, HasItems, HasNone, Wid
 
 use crate::rows::add_bytes;
 use fancy_bytes::byte_set::ByteSet;
+use fancy_bytes::edges::{add_ascii, next_member};
 use fancy_tree::char_set::CharSet;
 use fancy_tree::tree::Meaning;
 
@@ -66,11 +67,7 @@ fn ascii_of(set: &CharSet) -> ByteSet
     ensures { (b : ℕ) → b < 128 → has (edges_of set.now.set) b ≡ true → member result b ≡ true }
 {
     let mut bytes = ByteSet::new();
-    for byte in 0..128u32 {
-        if set.contains(byte) {
-            bytes.insert(byte as u8);
-        }
-    }
+    add_ascii(set.edges(), &mut bytes);
     bytes
 }
 
@@ -137,22 +134,6 @@ fn first_with(size: usize) -> u32
     }
 }
 
-/// The first member of a set, from a number on.
-fn next_member(set: &CharSet, from: u32) -> Option<u32>
-    ensures { MatchOption result ((c : ℕ) → from ≤ c → has (edges_of set.now.set) c ≡ false)
-        (λ n. (from ≤ n) × ((c : ℕ) → from ≤ c → c < n → has (edges_of set.now.set) c ≡ false)) }
-{
-    if set.contains(from) {
-        return Some(from);
-    }
-    for edge in set.edges() {
-        if from < *edge && set.contains(*edge) {
-            return Some(*edge);
-        }
-    }
-    None
-}
-
 /// Whether a set has few members past ASCII.
 pub fn is_small(set: &CharSet) -> bool {
     let edges = set.edges();
@@ -171,7 +152,7 @@ pub fn is_small(set: &CharSet) -> bool {
 fn has_character(set: &CharSet, sizes: Sizes) -> bool
     ensures { result ≡ false → HasNone Meaning.Unicode (has (edges_of set.now.set)) sizes.least sizes.most }
 {
-    match next_member(set, first_with(sizes.least)) {
+    match next_member(set.edges(), first_with(sizes.least)) {
         None => false,
         Some(c) => c < first_with(sizes.most.saturating_add(1)),
     }
@@ -211,7 +192,7 @@ fn add_each(sets: &mut Vec<ByteSet>, from: usize, exact: bool, set: &CharSet, si
     let end = first_with(sizes.most.saturating_add(1));
     let mut next = first_with(sizes.least);
     for _ in 0..FEW {
-        match next_member(set, next) {
+        match next_member(set.edges(), next) {
             Some(code) if code < end => {
                 add_code(sets, from, exact, code);
                 next = code + 1;

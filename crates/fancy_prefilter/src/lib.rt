@@ -12,6 +12,7 @@ pub mod literal;
 mod marks;
 pub mod prefilter;
 mod probes;
+mod region;
 pub mod rows;
 pub mod scan;
 pub mod seek;

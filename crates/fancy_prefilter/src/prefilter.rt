@@ -5,6 +5,7 @@ ghost use Rattle.fancy_tree.specs.Pattern.{pattern_of};
 ghost use Rattle.fancy_bytes.specs.Firsts.{AreStartBytes};
 ghost use Rattle.fancy_bytes.specs.Openings.{opening};
 ghost use Rattle.fancy_prefilter.specs.Prefilters.{branches_in, text_in, window_in};
+ghost use Rattle.fancy_required.specs.Regions.{IsRequired};
 
 use crate::branches::Branches;
 use crate::literal::{Literal, opening_literal};
@@ -12,6 +13,7 @@ use crate::rows;
 use crate::scan::{Scan, start_scan};
 use crate::window::Window;
 use fancy_bytes::byte_set::ByteSet;
+use fancy_required::text::RequiredText;
 use fancy_tree::tree::{Meaning, Tree};
 use std::alloc::{AllocError, Global};
 
@@ -52,17 +54,27 @@ impl Opening {
     }
 }
 
+/// Where each match starts, as far as an assertion that it begins with tells.
+#[derive(Drop)]
+pub enum Anchor {
+    /// Anywhere.
+    Anywhere,
+    /// At the text's start.
+    AtStart,
+    /// At the text's start or after a line feed: the scan for line feeds.
+    AtLines(Scan),
+}
+
 /// What tells where matches may begin.
 #[derive(Drop)]
 pub struct Prefilter {
     /// The bytes that a match starts with. `None` where it may start anywhere.
     pub starts: Option<Scan>,
-    /// Each match starts at the text's start.
-    pub only_at_start: bool,
-    /// Where each match starts at the text's start or after a line feed: the scan for line feeds.
-    pub lines: Option<Scan>,
+    pub anchor: Anchor,
     /// What each match opens with.
     pub opening: Opening,
+    /// The text that each match has in it, where it is scanned for if what matches open with is not.
+    pub region: Option<RequiredText>,
 }
 
 /// The text that whatever the pattern matches opens with, if there is one of two bytes or more. It is refused where memory
@@ -88,19 +100,20 @@ impl Prefilter {
     /// What a pattern tells of where its matches begin. It is refused where memory runs out.
     pub fn new(alloc: Global, tree: &Tree, meaning: Meaning) -> Result<Prefilter, AllocError>
         ensures starts { IfOk result (λ f. AreStartBytes meaning (pattern_of tree.now) f.starts) }
-        ensures anchored { IfOk result (λ f. f.only_at_start ≡ false) }
-        ensures lines { IfOk result (λ f. f.lines ≡ None) }
+        ensures anchor { IfOk result (λ f. f.anchor ≡ Anchor.Anywhere) }
         ensures text { IfOk result (λ f. IfSome (text_in f.opening) (λ text. text ≡ opening meaning (pattern_of tree.now))) }
         ensures window { IfOk result (λ f. window_in f.opening ≡ None) }
         ensures branches { IfOk result (λ f. branches_in f.opening ≡ None) }
+        ensures region { IfOk result (λ f. IfSome f.region (IsRequired meaning (pattern_of tree.now))) }
     {
         let starts = start_scan(tree, meaning);
         let opening = text_opening(alloc, tree, meaning)?;
+        let region = RequiredText::new(alloc, tree, meaning)?;
         Ok(Prefilter {
             starts,
-            only_at_start: false,
-            lines: None,
+            anchor: Anchor::Anywhere,
             opening,
+            region,
         })
     }
 
@@ -129,6 +142,11 @@ impl Prefilter {
             None => true,
             Some(byte) => stands_often(byte),
         }
+    }
+
+    /// Whether each match starts at the text's start.
+    pub fn only_at_start(&self) -> bool {
+        matches!(self.anchor, Anchor::AtStart)
     }
 
     /// Whether each match opens with a text that is told.

@@ -1,13 +1,15 @@
 -- What the bytes round a position tell.
-use Rattle.std.proofs.Common.{◌≡◌, ℕ, zero, suc, ◌+◌, ◌-◌, ◌<◌, ◌≤◌, Bool, true, false, Option, Some, None, IfSome, List, length, refl, sym, ap, subst, ◌∙◌, arith, true≢false, slice_get, slice_index, inl, inr}
+use Rattle.std.proofs.Common.{◌≡◌, ℕ, zero, suc, ◌+◌, ◌-◌, ◌<◌, ◌≤◌, Bool, true, false, Option, Some, None, IfSome, List, length, refl, sym, ap, subst, ◌∙◌, arith, slice_get, slice_index, inl, inr}
 use Rattle.std.specs.Prelude.{vec_len}
 use Rattle.fancy_input.specs.Lines.{byte_before}
 use Rattle.fancy_bytes.specs.Sets.{ByteFlags, member}
+use Rattle.fancy_prefilter.specs.declared.prefilter.Anchor.{Anchor}
 use Rattle.fancy_prefilter.specs.declared.prefilter.Opening.{Opening}
 use Rattle.fancy_prefilter.specs.declared.prefilter.Opening.TheVariants.{Untold, Text, Window, Sets, Words}
 use Rattle.fancy_prefilter.specs.declared.prefilter.Prefilter.{Prefilter}
 use Rattle.fancy_prefilter.specs.Prefilters.{window_in}
-use Rattle.fancy_prefilter.specs.NextOpening.{IsWithinLine, LacksOpening, StartsNot, by_byte, by_start, by_line, by_opening}
+use Rattle.fancy_prefilter.specs.NextOpening.{LacksRequired, IsOffAnchor, LacksOpening, StartsNot, by_byte, by_anchor, by_opening, by_text}
+use Rattle.fancy_required.specs.declared.text.RequiredText.{RequiredText}
 use Rattle.fancy_prefilter.specs.Seen.{MayNotStart}
 use Rattle.fancy_prefilter.specs.Windows.{set_at, StandsFrom}
 use Rattle.fancy_prices.specs.declared.entries.Told.{Told}
@@ -48,8 +50,8 @@ module _ (t : Told) (h : List ℕ) (small : (k : ℕ) → slice_index h k < 256)
 
   lacks : (p : ℕ) → StartsNot filter h to p → ¬ StandsFrom sets h to 0 p
   lacks p (by_byte not) = absurd (subst (λ (o : Option ByteFlags). MayNotStart o h to p) round.0.0 not)
-  lacks p (by_start e lt) = absurd (true≢false (sym e ∙ round.0.1))
-  lacks p (by_line not) = absurd (subst (λ (o : Option ByteFlags). IsWithinLine o h p) round.0.2 not)
+  lacks p (by_anchor not) = absurd (subst (λ (a : Anchor). IsOffAnchor a h p) round.0.1 not)
+  lacks p (by_text not) = absurd (subst (λ (o : Option RequiredText). LacksRequired o h to p) round.0.2 not)
   lacks p (by_opening not) = lacks_opening p filter.opening round.1.0 not
 
   module _ (end p : ℕ) (lt : suc (suc p) < to) (within : suc (suc p) < end) (none : ¬ StandsFrom sets h to 0 p) where

@@ -79,8 +79,3 @@ module _ (m : Meaning) (is : IsText m) (test : ℕ → Bool) (b : ℕ) where
         | inl ascii ↦ absurd (omega (arith, high, ascii, ascii_begins c ascii begins))
         | inr past ↦ true≢false (sym passes ∙ none (wide_begins c past begins) c past)
       ]
-
--- a byte begins the item with its own number, where items are bytes
-pub byte_begins_none : (m : Meaning) → m ≡ Bytes → (test : ℕ → Bool) (b : ℕ) → test b ≡ false → BeginsNone m test b
-byte_begins_none m is test b fails c passes begins =
-    true≢false (sym passes ∙ ap test (sym (ap (λ (k : Meaning). slice_index (encoding k c) 0) is) ∙ begins) ∙ fails)

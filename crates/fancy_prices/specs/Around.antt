@@ -1,6 +1,7 @@
 -- What rows say of what attempts cost, and what the bytes round a position tell of that.
 use Rattle.std.specs.Prelude.{◌≡◌, ℕ, ◌<◌, Bool, true, false, List, [], length, Option, Some, None, IfSome, slice_get, slice_index, slice_index_or}
 use Rattle.fancy_bytes.specs.Sets.{ByteFlags, member}
+use Rattle.fancy_prefilter.specs.declared.prefilter.Anchor.TheVariants.{Anywhere}
 use Rattle.fancy_prefilter.specs.declared.prefilter.Prefilter.{Prefilter}
 use Rattle.fancy_prefilter.specs.Prefilters.{window_in}
 use Rattle.fancy_prefilter.specs.Windows.{set_at}
@@ -66,7 +67,7 @@ sets_of (Some sets) = sets
 
 -- the filter scans for a window, and tells nothing else
 abbrev pub ScansForWindow : Prefilter → Type 0
-ScansForWindow filter = (filter.starts ≡ None) × (filter.only_at_start ≡ false) × (filter.lines ≡ None)
+ScansForWindow filter = (filter.starts ≡ None) × (filter.anchor ≡ Anywhere) × (filter.region ≡ None)
 
 -- It scans for three sets, for two bytes before a position and the one there: where one of these is not in its set, an attempt costs nothing.
 abbrev pub AreAround : Rows → Option (List (Option Price)) → ByteFlags → List ByteFlags → Type 0

@@ -8,7 +8,7 @@ use crate::kinds::word_bytes;
 use crate::price::Price;
 use crate::rows::{Rows, are_whole, is_free};
 use fancy_bytes::byte_set::ByteSet;
-use fancy_prefilter::prefilter::{Opening, Prefilter};
+use fancy_prefilter::prefilter::{Anchor, Opening, Prefilter};
 use fancy_prefilter::window::Window;
 use std::alloc::{AllocError, Global};
 
@@ -71,8 +71,8 @@ pub(crate) fn around_of(
     };
     Ok(Some(Prefilter {
         starts: None,
-        only_at_start: false,
-        lines: None,
+        anchor: Anchor::Anywhere,
         opening: Opening::Window(window),
+        region: None,
     }))
 }

@@ -196,7 +196,7 @@ impl Told {
         if from < BEFORE || to - from < MANY {
             return self.next_far(haystack, from, to);
         }
-        let place = next_opening(around, haystack, to, from - BEFORE, to) + BEFORE;
+        let place = next_opening(around, haystack, to, from - BEFORE, to, &mut None) + BEFORE;
         if place >= to {
             return to;
         }

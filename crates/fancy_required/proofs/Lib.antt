@@ -1,3 +1,1 @@
-pub mod ToldLemmas
-pub mod LackingLemmas
 pub mod RunLemmas

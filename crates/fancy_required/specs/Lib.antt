@@ -1,2 +1,3 @@
 pub mod Required
 pub mod Runs
+pub mod Regions

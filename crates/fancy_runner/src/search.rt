@@ -187,7 +187,9 @@ pub fn search(
         return Ok(None);
     }
     let last = request.last_position();
-    let mut place = next_opening(&code.prefilter, haystack, request.range_end, first, last);
+    let end = request.range_end;
+    let mut region = None;
+    let mut place = next_opening(&code.prefilter, haystack, end, first, last, &mut region);
     if place > last {
         return Ok(None);
     }
@@ -217,7 +219,7 @@ pub fn search(
             }
         }
         let from = pass_followed(&attempt, place + 1, last, &cache.notes.table);
-        place = next_opening(&code.prefilter, haystack, request.range_end, from, last);
+        place = next_opening(&code.prefilter, haystack, end, from, last, &mut region);
     }
     *kept = Some(KeptTable { base, from: place });
     Ok(None)

@@ -15,8 +15,6 @@ use Rattle.fancy_bytes.specs.Required.{required_bytes}
 use Rattle.fancy_bytes.proofs.BoolLemmas.{some_found, parts_of, and_never}
 use Rattle.fancy_bytes.proofs.LackLemmas.{stands_included, lacks_one}
 use Rattle.fancy_meaning.proofs.SkipLemmas.{lacking_is_none}
-use Rattle.fancy_required.specs.Required.{StandsFrom}
-use Rattle.fancy_required.proofs.LackingLemmas.{text_lacking_is_none}
 use Rattle.fancy_meaning.specs.Events.{Event, returns_in}
 use Rattle.fancy_input.specs.Requests.{positions}
 use Rattle.fancy_tree.specs.declared.error.Error.{Error}
@@ -41,11 +39,6 @@ use Rattle.fancy_search.specs.declared.program.Program.{Program}
 use Rattle.fancy_search.specs.Programs.{program_options, program_pattern, program_is_easy, asked_of, query_in}
 use Rattle.fancy_search.proofs.ProgramSizeLemmas.{parts_of_easy}
 use Rattle.fancy_meaning.proofs.FoundLemmas.{answer_within, attempt_within}
-
--- what holds of a value, if there is one, holds of each that there is
-pub each_some : (o : Option (List ℕ)) (P : List ℕ → Type 0) → IfSome o P → (x : List ℕ) → o ≡ Some x → P x
-each_some None P h x e = cc
-each_some (Some y) P h x e = let same : y ≡ x = cc in subst P same h
 
 -- an equation of answers has at most one proof, so that it may rest on a fact of which only the existence is known
 pub known : {P : Type 0} (a b : Option Answer) → ∥ P ∥₁ → (P → a ≡ b) → a ≡ b
@@ -82,13 +75,6 @@ lacking_none q e =
 -- what the look for the required bytes tells
 pub lacking_as_told : (r : Program) (asked : Asked) → not (includes_all asked.haystack.now r.required) ≡ lacks_required (query_in r asked)
 lacking_as_told r asked = lacks_one (required_bytes (meaning_in (program_options r)) (program_pattern r)) asked.haystack.now r.required r.needed
-
--- nor where a text is
-pub text_lacking_none : (r : Program) (asked : Asked) (text : List ℕ) → r.text_required ≡ Some text
-    → ¬ StandsFrom asked.haystack.now (effective_start asked.request.now) asked.request.now.range_end text → search (query_in r asked) ≡ None
-text_lacking_none r asked text is lacks =
-    text_lacking_is_none (query_in r asked)
-    (subst (λ (t : List ℕ). ¬ StandsFrom asked.haystack.now (effective_start asked.request.now) asked.request.now.range_end t) (r.held text is) lacks)
 
 both_are : (a b : Bool) → a ≡ true → b ≡ true → (a && b) ≡ true
 both_are true b e f = f

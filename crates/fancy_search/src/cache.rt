@@ -76,6 +76,11 @@ impl Kept {
         matches!(self, Kept::Nothing) && is_long_enough(haystack, first, end, shortest)
     }
 
+    /// Whether nothing is kept.
+    pub(crate) fn is_nothing(self) -> bool {
+        matches!(self, Kept::Nothing)
+    }
+
     /// Whether it is kept what the machine read.
     pub(crate) fn is_lines(self) -> bool
         ensures { result ≡ true → self ≡ Kept.Lines }

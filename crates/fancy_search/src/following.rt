@@ -1,8 +1,11 @@
 //! For which patterns the automaton is worth its steps.
 
+ghost use Rattle.std.specs.Prelude.{◌≤◌, length};
+
 use crate::one_item::reads_one;
 use fancy_code::code::{Code, Instr};
 use fancy_prefilter::branches::WIDE;
+use fancy_prefilter::candidates::next_opening;
 use fancy_prefilter::prefilter::Prefilter;
 use fancy_tree::char_set::CharSet;
 
@@ -108,6 +111,28 @@ pub(crate) fn shortest_followed(code: &Code) -> Lengths {
     Lengths {
         ascii: if is_wide { SHORT_WIDE } else { SHORT },
         any: if is_wide { SHORT_WIDE } else { SHORT_OTHER },
+    }
+}
+
+/// So many bytes are looked at for the first required text.
+const AHEAD: usize = 4096;
+
+/// Whether the runner leaps: from `first` up to `end`, byte offsets, it looks at fewer bytes than it passes over, as far as the first text
+/// tells that each match must have. The automaton goes on by first bytes alone.
+#[inline(never)]
+pub(crate) fn leaps(prefilter: &Prefilter, haystack: &[u8], first: usize, end: usize) -> bool
+    requires inside { end ≤ length haystack.now }
+{
+    if prefilter.region.is_none() || end < first {
+        return false;
+    }
+    let seen = end.min(first.saturating_add(AHEAD));
+    let mut region = None;
+    let place = next_opening(prefilter, haystack, seen, first, seen, &mut region);
+    let passed = place - first;
+    match region {
+        None => true,
+        Some(text) => text.saturating_sub(place) < passed,
     }
 }
 

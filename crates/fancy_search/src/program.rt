@@ -23,7 +23,6 @@ ghost use Rattle.fancy_states.specs.Futures.{ArePlain};
 ghost use Rattle.fancy_states.specs.Search.{KeepsPlaces};
 ghost use Rattle.fancy_states.specs.Counts.{AddsSteps};
 ghost use Rattle.fancy_bytes.specs.Lacks.{AreKnown, AreRequired};
-ghost use Rattle.fancy_required.specs.Required.{required_text};
 ghost use Rattle.fancy_splits.specs.Told.{ArePrices};
 ghost use Rattle.fancy_splits.specs.Once.{prices_once};
 ghost use Rattle.fancy_search.specs.Readings.{Reading, one_reading};
@@ -38,7 +37,7 @@ ghost use Rattle.fancy_search.specs.Straight.{is_straight};
 
 use crate::asked::Asked;
 use crate::cache::{AttemptCache, AttemptNotes, Cache, Engine, Kept, RememberedSteps};
-use crate::following::{Lengths, is_worth_following, shortest_followed};
+use crate::following::{Lengths, is_worth_following, leaps, shortest_followed};
 use crate::one_item::{is_one_item, past_one_item};
 use crate::options::Options;
 use crate::straight::{is_straight, past_straight};
@@ -54,7 +53,6 @@ use fancy_input::work::Work;
 use fancy_machine::search as machine;
 use fancy_meaning::options::{SearchOptions, is_match_boundary};
 use fancy_prefilter::candidates::next_opening;
-use fancy_required::text::RequiredText;
 use fancy_runner::notes::KeptTable;
 use fancy_runner::search as runner;
 use fancy_splits::prices::Prices;
@@ -93,8 +91,6 @@ pub struct Program {
     shortest: Lengths,
     /// The bytes that every haystack with a match has.
     required: RequiredBytes,
-    /// The text that every match has in it, where it is looked for before those bytes.
-    text_required: Option<RequiredText>,
     /// What is told of the machine's attempts.
     prices: Prices,
     pub ghost reading: { Reading options (string_bytes text) } by { one_reading options (string_bytes text) },
@@ -111,7 +107,6 @@ pub struct Program {
     pub ghost limited: { ForSome options.step_limit (λ most. most < 2 ^ 64) },
     ghost starts: { has_keep_start_in_look_around reading.0 ≡ false },
     ghost needed: { AreRequired (meaning_in options) reading.0 required },
-    ghost held: { ForSome text_required (λ t. t ≡ required_text (meaning_in options) reading.0) },
     ghost priced: { ArePrices prices code } by { prices_once prices code },
     ghost whole: { keeps_characters options.bytes_mode ≡ true → has_raw_byte reading.0 ≡ false },
 }
@@ -132,7 +127,6 @@ impl Drop for Program {
             worth_following: _,
             shortest: _,
             required: _,
-            text_required: _,
             prices: _,
         } = self;
     }
@@ -158,21 +152,6 @@ fn prices_of(alloc: Global, code: &Code, easy: bool) -> std::result::Result<Pric
         return Ok(Prices::none(alloc));
     }
     Prices::of(alloc, code)
-}
-
-/// The text that every match has in it. For a hard pattern none is looked for.
-fn required_text_of(
-    alloc: Global,
-    tree: &Tree,
-    meaning: Meaning,
-    easy: bool,
-) -> std::result::Result<Option<RequiredText>, AllocError>
-    ensures { IfOk result (λ o. IfSome o (λ t. t ≡ required_text meaning (pattern_of tree.now))) }
-{
-    if !easy {
-        return Ok(None);
-    }
-    RequiredText::new(alloc, tree, meaning)
 }
 
 /// The request for the attempt at one position alone.
@@ -234,7 +213,6 @@ impl Program {
         let worth_following = is_worth_following(&code);
         let shortest = shortest_followed(&code);
         let required = RequiredBytes::new(alloc, &tree, options.meaning())?;
-        let text_required = required_text_of(alloc, &tree, options.meaning(), easy)?;
         let prices = prices_of(alloc, &code, easy)?;
         let text = String::from_str(alloc, pattern)?;
         let for_search = options.for_search();
@@ -251,7 +229,6 @@ impl Program {
             worth_following,
             shortest,
             required,
-            text_required,
             prices,
         })
     }
@@ -559,14 +536,15 @@ impl Program {
         let (last, end) = (request.last_position(), request.range_end);
         let prefilter = &self.code.prefilter;
         let suppressed = self.for_search.suppressed_ends(*request);
-        let mut place = next_opening(prefilter, haystack, end, first, last);
+        let mut region = None;
+        let mut place = next_opening(prefilter, haystack, end, first, last, &mut region);
         'places: while place <= last {
             let past = past_straight(&self.code, haystack, suppressed, place, work);
             let found = self.match_to(haystack, end, place, past);
             if found.is_some() {
                 return found;
             }
-            place = next_opening(prefilter, haystack, end, place + 1, last);
+            place = next_opening(prefilter, haystack, end, place + 1, last, &mut region);
         }
         None
     }
@@ -610,7 +588,11 @@ impl Program {
         }
         let request = asked.request;
         let first = request.effective_start();
-        if !kept.is_worth_steps(asked.haystack, first, request.range_end, self.shortest) {
+        let end = request.range_end;
+        if !kept.is_worth_steps(asked.haystack, first, end, self.shortest) {
+            return false;
+        }
+        if kept.is_nothing() && leaps(&self.code.prefilter, asked.haystack, first, end) {
             return false;
         }
         self.can_follow(asked.text)
@@ -684,7 +666,7 @@ impl Program {
         }
     }
 
-    /// Whether a byte or a text that the pattern requires was looked for, and does not stand in the haystack: then nothing is found.
+    /// Whether a byte that the pattern requires was looked for, and does not stand in the haystack: then nothing is found.
     #[inline]
     fn is_hopeless(&self, asked: &Asked<'_>, known: &mut KnownBytes) -> bool
         requires known { AreKnown known.old asked.now.haystack.now }
@@ -699,28 +681,7 @@ impl Program {
             return false;
         }
         let start = asked.request.effective_start();
-        if self.required.are_lacking(asked.haystack, start, known) {
-            return true;
-        }
-        self.lacks_text(asked)
-    }
-
-    /// Whether the text that every match has in it was looked for, and stands nowhere in what is searched. Under `seek`, which is
-    /// defined by bytes, it is not looked for.
-    #[inline(always)]
-    fn lacks_text(&self, asked: &Asked<'_>) -> bool
-        ensures none { result ≡ true → search (query_in self.now asked.now) ≡ None }
-        ensures unsought { result ≡ true → (program_options self.now).seek ≡ false }
-    {
-        let request = asked.request;
-        let start = request.effective_start();
-        if self.options.seek || start > request.range_end {
-            return false;
-        }
-        match &self.text_required {
-            None => false,
-            Some(text) => text.is_lacking(asked.haystack, start, request.range_end),
-        }
+        self.required.are_lacking(asked.haystack, start, known)
     }
 
     /// Whether a search begins with a look for what the pattern requires: where it seeks, and for an easy pattern also where all of
@@ -746,7 +707,7 @@ impl Program {
         if haystack.len() < SHORT_HAYSTACK {
             self.code.prefilter.has_text()
         } else {
-            self.code.prefilter.only_at_start
+            self.code.prefilter.only_at_start()
         }
     }
 

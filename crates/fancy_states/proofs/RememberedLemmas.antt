@@ -144,7 +144,3 @@ remembers a code all = (λ k d lt. remembered code a.rows.lists.items (get_or a.
 
 pub recalls : (a : Cells) (code : Code) → Remembers a code → IsFor a code
 recalls a code all = (λ k d lt. recalled code a.rows.lists.items (get_or a.cells.items k d) (all.0 k d lt), all.1)
-
--- so a struct may keep it as a fact, and that no more is remembered than may be
-pub remembers_once : (a : Cells) (code : Code) → IsProp (Remembers a code × IsBounded a)
-remembers_once a code = hlevel props

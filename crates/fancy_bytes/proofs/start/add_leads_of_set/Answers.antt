@@ -1,11 +1,16 @@
-use Rattle.std.proofs.Common.{◌∙◌, List, Bool, arith, ap, sym}
+use Rattle.std.proofs.Common.{◌∙◌, ◌||◌, List, Bool, arith, ap, sym}
 use Rattle.fancy_tree.specs.Members.{edges_of}
 use Rattle.fancy_tree.specs.Sets.{has}
 use Rattle.fancy_bytes.specs.Items.{first_of_characters}
 use Rattle.fancy_bytes.specs.Sets.{member}
 use Rattle.fancy_bytes.proofs.EdgeLemmas.{byte_added, byte_passed, bytes_done}
+use Rattle.fancy_bytes.proofs.ItemLemmas.{ascii_first}
 use Rattle.fancy_bytes.proofs.start.add_leads_of_set.Goals as goal
 use Rattle.fancy_bytes.proofs.start.add_leads_of_set.Goals.{then-is_first, else-is_first}
+
+pub loop-byte-init : goal.loop-byte-init
+loop-byte-init c b lt =
+    (rw c.edges.ensures at c.add_ascii.ensures) b lt ∙ ap (λ (t : Bool). member c.args.set.now b || t) (ascii_first (has (edges_of c.args.items.now)) b)
 
 pub loop-byte-preserved : goal.loop-byte-preserved
 loop-byte-preserved c b lt =

@@ -15,6 +15,6 @@ returns-clause-is c p is =
       opens = rw (same.meaning, same.prefilter) is.opens;
       foretold = rw (same.prefilter, same.meaning, same.instrs, same.start) is.foretold;
       anchored = rw (same.prefilter, same.instrs, same.start) is.anchored;
-      lines = rw (same.prefilter, same.instrs, same.start) is.lines;
       branched = rw (same.prefilter, same.instrs, same.meaning, same.start) is.branched;
+      required = rw (same.prefilter, same.meaning) is.required;
     }

@@ -1,6 +1,5 @@
-use Rattle.std.proofs.Common.{rules, arith, List, length, ◌+◌, ◌≡◌, refl, sym, ap, ◌∙◌, true≢false}
+use Rattle.std.proofs.Common.{rules, arith, List, length, ◌+◌, ◌≡◌, refl, sym, ap, ◌∙◌}
 use Rattle.std.proofs.lemmas.List.{length-map}
-use Rattle.fancy_prefilter.specs.declared.prefilter.Prefilter.{Prefilter}
 use Rattle.fancy_code.specs.Compile.{are_easy}
 use Rattle.fancy_code.specs.Instructions.{Instruction, with_set}
 use Rattle.fancy_code.specs.Instructions as i
@@ -24,9 +23,9 @@ returns c = record {
     starts = rw (c.in_ok-code.ensures.meaning, c.in_ok-code.ensures.prefilter) c.in_ok-prefilter.ensures.starts;
     opens = rw (c.in_ok-code.ensures.meaning, c.in_ok-code.ensures.prefilter) c.in_ok-prefilter.ensures.text;
     foretold = rw (c.in_ok-code.ensures.prefilter, c.in_ok-prefilter.ensures.window) tt;
-    lines = rw (c.in_ok-code.ensures.prefilter, c.in_ok-prefilter.ensures.lines) tt;
     branched = rw (c.in_ok-code.ensures.prefilter, c.in_ok-prefilter.ensures.branches) tt;
-    anchored = λ e. absurd (true≢false (sym e ∙ ap (λ (f : Prefilter). f.only_at_start) c.in_ok-code.ensures.prefilter ∙ c.in_ok-prefilter.ensures.anchored));
+    required = rw (c.in_ok-code.ensures.meaning, c.in_ok-code.ensures.prefilter) c.in_ok-prefilter.ensures.region;
+    anchored = rw (c.in_ok-code.ensures.prefilter, c.in_ok-prefilter.ensures.anchor) tt;
   };
   easy = λ is. rw c.in_ok-code.ensures.instrs (c.in_ok-entry.ensures.easy is (c.in_ok-put-2.ensures.puts.easy refl (c.in_ok-put.ensures.puts.easy refl (ap are_easy c.new-code.ensures))));
   short = omega (

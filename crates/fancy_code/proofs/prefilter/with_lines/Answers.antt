@@ -12,7 +12,7 @@ returns-clause-is c p is = record {
   starts = is.starts;
   opens = is.opens;
   foretold = is.foretold;
-  anchored = is.anchored;
-  lines = (c.line_feeds.ensures, c.if-not-starts_lines.ensures refl);
+  anchored = (c.line_feeds.ensures, c.if-not-starts_lines.ensures refl);
   branched = is.branched;
+  required = is.required;
 }

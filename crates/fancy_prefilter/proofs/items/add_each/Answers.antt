@@ -17,7 +17,7 @@ loop-preserved c =
           elim (cases_lt d c.loop.next) [
             | inl before ↦ wider_encoding _ _ c.add_code.ensures.wider c.args.from c.args.exact (encode_utf8 d) (c.loop.invariant.has d is item enough before)
             | inr from ↦ elim (cases_lt d c.in-Some.code) [
-              | inl none ↦ absurd (true≢false (sym is ∙ c.in-Some.ensures.1 d from none))
+              | inl none ↦ absurd (true≢false (sym is ∙ (rw c.edges.ensures at c.in-Some.ensures.1) d from none))
               | inr le ↦
                   let same : d ≡ c.in-Some.code = omega (arith, lt, le) in
                   subst (λ (x : ℕ). HasEncoding c.add_code.new.sets.items c.args.from c.args.exact (encode_utf8 x)) (sym same)
@@ -32,12 +32,12 @@ returns-in_default-clause-has c e d is item enough few =
     c.first_with-end.ensures.before d item (omega (arith, few, length-encode d, (len_utf8_bounds d).1, c.saturating_add.ensures)) in
     elim (cases_lt d c.loop.next) [
       | inl before ↦ c.loop.invariant.has d is item (omega (arith, enough, length-encode d)) before
-      | inr from ↦ absurd (true≢false (sym is ∙ c.in-Some.ensures.1 d from (omega (arith, below, c.if-code-end.false))))
+      | inr from ↦ absurd (true≢false (sym is ∙ (rw c.edges.ensures at c.in-Some.ensures.1) d from (omega (arith, below, c.if-code-end.false))))
     ]
 
 pub returns-in_default-2-clause-has : goal.returns-in_default-2-clause-has
 returns-in_default-2-clause-has c e d is item enough few =
     elim (cases_lt d c.loop.next) [
       | inl before ↦ c.loop.invariant.has d is item (omega (arith, enough, length-encode d)) before
-      | inr from ↦ absurd (true≢false (sym is ∙ c.in_default.ensures d from))
+      | inr from ↦ absurd (true≢false (sym is ∙ (rw c.edges.ensures at c.in_default.ensures) d from))
     ]

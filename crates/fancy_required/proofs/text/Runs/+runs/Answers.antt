@@ -1,4 +1,4 @@
-use Rattle.std.proofs.Common.{◌≡◌, ◌∙◌, List, ap, sym, map, arith}
+use Rattle.std.proofs.Common.{◌∙◌, List, ap, sym, map, arith}
 use Rattle.fancy_tree.specs.declared.tree.Tree.{Tree}
 use Rattle.fancy_tree.specs.Pattern.{pattern_of, in_sequence}
 use Rattle.fancy_tree.proofs.PatternLemmas.{pattern-Concat, pattern-Alternation}

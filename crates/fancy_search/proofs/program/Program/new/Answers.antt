@@ -14,7 +14,6 @@ use Rattle.fancy_tree.specs.GroupNumbers.{Numbered}
 use Rattle.fancy_search.proofs.SpelledLemmas.{bytes_accepted, kept_accepted}
 use Rattle.fancy_search.proofs.RisingLemmas.{rising_names}
 use Rattle.fancy_search.proofs.ProgramSizeLemmas.{too_long, both_of, second_fails}
-use Rattle.fancy_search.proofs.SearchedLemmas.{each_some}
 use Rattle.fancy_search.proofs.program.Program.new.Goals as goal
 
 pub returns-in_err-tree : goal.returns-in_err-tree
@@ -61,7 +60,6 @@ invariant_of-result c = record {
   limited = search rules;
   starts = kept_accepted (c.in_ok-tree.ensures.accepted.0);
   needed = rw (sym c.meaning-2.ensures) c.in_ok-required.ensures;
-  held = each_some _ _ (rw (sym c.meaning-3.ensures) c.in_ok-text_required.ensures);
   priced = c.in_ok-prices.ensures;
   whole = λ e. bytes_accepted (ap (λ (o : DialectOptions). o.keeps_characters) c.parse_options.ensures ∙ e) (c.in_ok-tree.ensures.accepted.0);
 }

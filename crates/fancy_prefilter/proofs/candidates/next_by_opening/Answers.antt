@@ -1,5 +1,5 @@
 use Rattle.fancy_prefilter.proofs.NextLemmas.{next_first}
-use Rattle.fancy_prefilter.proofs.candidates.next_opening.Goals as goal
+use Rattle.fancy_prefilter.proofs.candidates.next_by_opening.Goals as goal
 
 pub returns-in-Untold : goal.returns-in-Untold
 returns-in-Untold c =

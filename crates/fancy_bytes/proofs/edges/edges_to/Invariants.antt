@@ -1,5 +1,5 @@
 use Rattle.std.proofs.Common.{◌-◌, ℕ, ◌<◌, ◌≤◌, length, slice_index}
-use Rattle.fancy_bytes.proofs.start.edges_to.Given as goal
+use Rattle.fancy_bytes.proofs.edges.edges_to.Given as goal
 
 abbrev pub invariant-loop-low : goal.invariant-loop-low
 invariant-loop-low l = record {

@@ -1,0 +1,50 @@
+-- Where a text that does not occur in a part of the haystack does not stand.
+use Rattle.std.proofs.Common.{◌≡◌, ℕ, ◌+◌, ◌-◌, ◌<◌, ◌≤◌, List, [], ◌∷◌, length, Option, Some, refl, sym, subst, arith, le_refl, le_trans}
+use Rattle.std.specs.Prelude.{slice_range}
+use Rattle.memchr.specs.Find.{OccursAt, Nowhere}
+use Rattle.fancy_bytes.specs.Openings.{StandsBefore}
+use Rattle.fancy_required.specs.Required.{StandsFrom}
+use Rattle.fancy_required.specs.declared.text.RequiredText.{RequiredText}
+use Rattle.fancy_prefilter.specs.Regions.{EndsRegion, LacksText, before, nowhere}
+use Rattle.fancy_prefilter.specs.NextOpening.{LacksRequired, StartsNot, by_text}
+use Rattle.fancy_prefilter.specs.declared.prefilter.Prefilter.{Prefilter}
+use Rattle.fancy_prefilter.proofs.StandsLemmas.{none_stands}
+
+-- a text that does not occur in a part of the haystack stands nowhere there
+pub stands_nowhere : (haystack : List ℕ) (from end : ℕ) (text : List ℕ) → from ≤ end → end ≤ length haystack → Nowhere (OccursAt (slice_range haystack from end) text) 0 (end - from + 1)
+    → ¬ StandsFrom haystack from end text
+stands_nowhere haystack from end text ordered inside none s = at text none s.stands where
+  at : (t : List ℕ) → Nowhere (OccursAt (slice_range haystack from end) t) 0 (end - from + 1) → StandsBefore haystack end t s.place → ⊥
+  at [] none stands = none_stands haystack from end ordered inside [] (end - from + 1) (end + 1) (omega (arith, ordered)) (omega arith) none from (le_refl from) (omega (arith, ordered)) tt
+  at (b ∷ bs) none stands =
+      none_stands haystack from end ordered inside (b ∷ bs) (end - from + 1) (end + 1) (omega (arith, ordered)) (omega arith) none s.place s.low (omega (arith, stands.0)) stands
+
+stands_wider : (haystack : List ℕ) (edge end : ℕ) (text : List ℕ) (k : ℕ) → edge ≤ end → StandsBefore haystack edge text k → StandsBefore haystack end text k
+stands_wider haystack edge end [] k le s = tt
+stands_wider haystack edge end (b ∷ bs) k le s = (omega (arith, s.0, le), s.1, stands_wider haystack edge end bs (k + 1) le s.2)
+
+-- nor does it stand before an edge that comes before the first place at which it occurs
+pub none_before : (haystack : List ℕ) (from end : ℕ) → from ≤ end → end ≤ length haystack → (text : List ℕ) (found edge : ℕ) → from ≤ edge → edge < from + found → from + found ≤ end
+    → Nowhere (OccursAt (slice_range haystack from end) text) 0 found → ¬ StandsFrom haystack from edge text
+none_before haystack from end ordered inside text found edge after lower within none s = at text none s.stands where
+  at : (t : List ℕ) → Nowhere (OccursAt (slice_range haystack from end) t) 0 found → StandsBefore haystack edge t s.place → ⊥
+  at [] none stands = none_stands haystack from end ordered inside [] found (from + found) refl (omega (arith, within)) none from (le_refl from) (omega (arith, after, lower)) tt
+  at (b ∷ bs) none stands =
+      none_stands haystack from end ordered inside (b ∷ bs) found (from + found) refl (omega (arith, within)) none s.place s.low (omega (arith, stands.0, lower))
+      (stands_wider haystack edge end (b ∷ bs) s.place (omega (arith, lower, within)) stands)
+
+-- where it stands nowhere from a place on, it stands nowhere from a later one on
+pub none_later : (haystack : List ℕ) (from k end : ℕ) (text : List ℕ) → from ≤ k → ¬ StandsFrom haystack from end text → ¬ StandsFrom haystack k end text
+none_later haystack from k end text le none s = none (record { place = s.place; low = le_trans le s.low; stands = s.stands })
+
+-- so it is of an edge
+pub lacks_before : (r : RequiredText) (haystack : List ℕ) (from k edge end : ℕ) → from ≤ k → k ≤ edge → edge < end → EndsRegion r haystack from edge → LacksText r haystack end k
+lacks_before r haystack from k edge end le within lt is =
+    before edge within lt (record { ascii = is.ascii; apart = is.apart; none = none_later haystack from k edge r.text.items le is.none })
+
+-- where it does not stand, no match starts
+pub starts_not : (f : Prefilter) (r : RequiredText) (haystack : List ℕ) (end p : ℕ) → f.region ≡ Some r → LacksText r haystack end p → StartsNot f haystack end p
+starts_not f r haystack end p is lacks = by_text (subst (λ (o : Option RequiredText). LacksRequired o haystack end p) (sym is) lacks)
+
+pub lacks_from : (r : RequiredText) (haystack : List ℕ) (from k end : ℕ) → from ≤ k → ¬ StandsFrom haystack from end r.text.items → LacksText r haystack end k
+lacks_from r haystack from k end le none = nowhere (none_later haystack from k end r.text.items le none)
