@@ -45,6 +45,7 @@ pub fn add_item_starts(tree: &Tree, meaning: Meaning, set: &mut ByteSet)
     }
 }
 
+/// The same of several patterns.
 #[cycle(reads)]
 fn add_item_starts_in(trees: &[Tree], meaning: Meaning, set: &mut ByteSet)
     ensures { AddsBytes (item_starts_in meaning (map pattern_of trees.now)) set.old set.new }

@@ -18,9 +18,9 @@ use Rattle.fancy_meaning.specs.Trace.{trace, is_greedy}
 use Rattle.fancy_meaning.proofs.BeginLemmas.{moved_within}
 use Rattle.fancy_meaning.proofs.EventLemmas.{EachOutcome-bind, EachOutcome-guarded, EachOutcome-either, EachOutcome-if}
 use Rattle.fancy_meaning.proofs.ForwardLemmas.{EachOutcome_imp, LeadsOn-bind, LeadsOn-by_kind, LeadsOn-holding, LeadsOn-looked, LeadsOn-repeated, LeadsOn-stay}
+use Rattle.fancy_meaning.proofs.OpenLemmas.{past_byte-ends}
 use Rattle.fancy_meaning.proofs.SeenLemmas.{item_begins, past_byte-here, past_item-has}
 use Rattle.fancy_code.proofs.ForetoldLemmas.{item_at, item_byte}
-use Rattle.fancy_code.proofs.ToldLemmas.{past_byte-ends}
 
 neither : (a b : Bool) → (a || b) ≡ false → (a ≡ false) × (b ≡ false)
 neither true b e = absurd (true≢false e)

@@ -7,7 +7,7 @@ use Rattle.fancy_tree.specs.declared.tree.RepeatKind.{RepeatKind}
 use Rattle.fancy_tree.specs.Pattern.{Pattern, empty, character, member_of, in_any_case, raw_byte, backreference, assertion, group_test, keep_start, continue_here, group, repeat, look_ahead, look_behind, atomic, conditional, followed, or_else, last_branch}
 use Rattle.fancy_bytes.specs.Items.{encoding, only}
 use Rattle.fancy_bytes.specs.Openings.{StandsBefore}
-use Rattle.fancy_meaning.specs.Context.{Context, State, past_byte, holds, option_to}
+use Rattle.fancy_meaning.specs.Context.{Context, State, holds}
 use Rattle.fancy_meaning.specs.Events.{Walk, bind, copies, optionals, star}
 use Rattle.fancy_meaning.specs.Forward.{EachOutcome, IsBetween, LeadsOn}
 use Rattle.fancy_meaning.specs.Trace.{trace, repeated, is_greedy}
@@ -15,7 +15,7 @@ use Rattle.fancy_meaning.proofs.BeginLemmas.{moved_within}
 use Rattle.fancy_meaning.proofs.EventLemmas.{EachOutcome-bind, EachOutcome-only_if}
 use Rattle.fancy_code.proofs.ForetoldLemmas.{item_at}
 use Rattle.fancy_meaning.proofs.ForwardLemmas.{EachOutcome_imp, LeadsOn-by_kind, LeadsOn-copies, LeadsOn-optionals, LeadsOn-repeated, LeadsOn-trace}
-use Rattle.fancy_meaning.proofs.OpenLemmas.{stands_from_drop, stands_append}
+use Rattle.fancy_meaning.proofs.OpenLemmas.{past_byte-ends, stands_from_drop, stands_append}
 use Rattle.fancy_meaning.proofs.SeenLemmas.{only_one, past_byte-here}
 use Rattle.fancy_meaning.proofs.WalkLemmas.{EachOutcome_both}
 use Rattle.fancy_required.specs.Required.{gap, told_bytes, texts_from, longest_of, StandsFrom}
@@ -67,20 +67,6 @@ module _ (haystack : List ℕ) (low end : ℕ) where
       longest_stands bytes (if nat_lt (length best) (length text) then text else best) [] here.0 here.0 q
       (either_stands (nat_lt (length best) (length text)) text best (record { place = k; low = from; stands = s }) b)
       (omega (arith, from, e, here.1)) tt (omega arith) to here.2
-
--- a byte ends one place on
-
-byte_past : (byte b p q : ℕ) (t : Bool) → (if t then Some (p + 1) else None) ≡ Some q → p + 1 ≡ q
-byte_past byte b p q true e = cc
-byte_past byte b p q false e = cc
-
-byte_ends : (byte p q : ℕ) (o : Option ℕ) → option_to o None (λ b. if b == byte then Some (p + 1) else None) ≡ Some q → p + 1 ≡ q
-byte_ends byte p q None e = cc
-byte_ends byte p q (Some b) e = byte_past byte b p q (b == byte) e
-
-pub past_byte-ends : (x : Context) (byte p q : ℕ) → past_byte x byte p ≡ Some q → p + 1 ≡ q
-unfolding past_byte
-past_byte-ends x byte p q e = byte_ends byte p q (slice_get x.haystack p) e
 
 module _ (x : Context) (limit : ℕ) where
   abbrev pub AreAs : List (Option ℕ) → State → State → Type 0
@@ -135,7 +121,7 @@ module _ (x : Context) (limit : ℕ) where
   trace_told (in_any_case edges) s to = untold (in_any_case edges) s to
   trace_told (raw_byte byte) s to =
       moved_within (AreAs (Some byte ∷ []) s) limit s _
-      (λ q past within. (past_byte-here x byte s.place q past, past_byte-ends x byte s.place q past))
+      (λ q past within. (past_byte-here x byte s.place q past, sym (past_byte-ends x byte s.place q past)))
   trace_told (backreference folded number) s to = untold (backreference folded number) s to
   trace_told (assertion a) s to = EachOutcome-only_if (AreAs [] s) (holds x a s.place) _ (λ h. (refl, tt))
   trace_told (group_test number) s to = untold (group_test number) s to

@@ -95,7 +95,7 @@ byte_ends : (byte p q : ℕ) (o : Option ℕ) → option_to o None (λ b. if b =
 byte_ends byte p q None e = cc
 byte_ends byte p q (Some b) e = byte_past b byte p q (b == byte) e
 
-past_byte-ends : (x : Context) (byte p q : ℕ) → past_byte x byte p ≡ Some q → q ≡ p + 1
+pub past_byte-ends : (x : Context) (byte p q : ℕ) → past_byte x byte p ≡ Some q → q ≡ p + 1
 unfolding past_byte
 past_byte-ends x byte p q e = byte_ends byte p q (slice_get x.haystack p) e
 

@@ -70,10 +70,11 @@ pub enum Anchor {
 pub struct Prefilter {
     /// The bytes that a match starts with. `None` where it may start anywhere.
     pub starts: Option<Scan>,
+    /// Where each match starts: anywhere, at the text's start, or at the starts of lines.
     pub anchor: Anchor,
     /// What each match opens with.
     pub opening: Opening,
-    /// The text that each match has in it, where it is scanned for if what matches open with is not.
+    /// A text that each match has in it, if one is told that texts have seldom.
     pub region: Option<RequiredText>,
 }
 

@@ -180,7 +180,7 @@ impl RequiredText {
         Ok(Some(RequiredText { text, reads }))
     }
 
-    /// The text, which has a byte or more.
+    /// The text.
     pub fn text(&self) -> &[u8]
         ensures { result.now ≡ self.now.text.items }
     {

@@ -24,7 +24,7 @@ pub struct Set {
 }
 
 /// How many edges are at most `c`.
-fn edges_to(edges: &[u32], c: u32) -> usize
+pub fn edges_to(edges: &[u32], c: u32) -> usize
     requires { AreRising edges.now }
     ensures { Cut edges.now result (c + 1) }
 {
@@ -56,7 +56,7 @@ fn next_edge(a: &[u32], i: usize, b: &[u32], j: usize) -> Option<u32>
 }
 
 /// The index after the edge `at`, if that stands at the index `i`; else `i`.
-fn skip_edge(edges: &[u32], i: usize, at: u32) -> usize
+pub fn skip_edge(edges: &[u32], i: usize, at: u32) -> usize
     requires rising { AreRising edges.now }
     requires cut { Cut edges.now i at }
     ensures cut { Cut edges.now result (at + 1) }
