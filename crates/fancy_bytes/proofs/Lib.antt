@@ -1,8 +1,9 @@
 pub mod BoolLemmas
-pub mod SetLemmas
-pub mod ItemLemmas
-pub mod ListLemmas
-pub mod ReadLemmas
 pub mod EdgeLemmas
+pub mod ItemBytesLemmas
+pub mod ItemLemmas
 pub mod LackLemmas
+pub mod ListLemmas
 pub mod OpeningLemmas
+pub mod ReadLemmas
+pub mod SetLemmas

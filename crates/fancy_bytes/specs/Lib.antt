@@ -1,9 +1,10 @@
-pub mod Sets
-pub mod Iterations
-pub mod Items
 pub mod Firsts
-pub mod Required
-pub mod Lists
+pub mod Items
+pub mod Iterations
 pub mod Lacks
+pub mod Lists
 pub mod Openings
 pub mod Reads
+pub mod Required
+pub mod Rows
+pub mod Sets

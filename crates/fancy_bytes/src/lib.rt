@@ -3,9 +3,11 @@
 
 pub mod byte_set;
 pub mod edges;
+pub mod items;
 pub mod lacking;
 pub mod members;
 pub mod opening;
 pub mod reads;
 pub mod required;
+pub mod rows;
 pub mod start;

@@ -6,7 +6,7 @@ use Rattle.std.specs.Prelude.{slice_get}
 use Rattle.fancy_tree.specs.declared.tree.Meaning.{Meaning}
 use Rattle.fancy_prefilter.specs.KeyTables.{MissesNoRow}
 use Rattle.fancy_bytes.specs.Sets.{ByteFlags}
-use Rattle.fancy_prefilter.specs.Windows.{StandsFrom}
+use Rattle.fancy_bytes.specs.Rows.{StandsFrom}
 use Rattle.fancy_code.specs.Branches.{AreBranches, Chooses, HasLead, SplitsTo}
 use Rattle.fancy_code.specs.Foretold.{AreRows}
 use Rattle.fancy_code.specs.Instructions.{Instruction, Split}

@@ -4,7 +4,7 @@ use Rattle.std.specs.Prelude.{slice_index, slice_index_or}
 use Rattle.fancy_tree.specs.declared.tree.Meaning.{Meaning}
 use Rattle.std.proofs.lemmas.Bool.Decides.{eqb_tells}
 use Rattle.fancy_bytes.specs.Sets.{ByteFlags, member}
-use Rattle.fancy_prefilter.specs.Windows.{StandsFrom, set_at}
+use Rattle.fancy_bytes.specs.Rows.{StandsFrom, set_at}
 use Rattle.fancy_code.specs.Choices.{has_stop, stops, BeginsAmong, way_beside}
 use Rattle.fancy_code.specs.Foretold.{Foretold}
 use Rattle.fancy_code.specs.Instructions.{Instruction, Split}

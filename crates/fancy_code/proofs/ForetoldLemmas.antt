@@ -11,7 +11,7 @@ use Rattle.fancy_tree.specs.declared.tree.Assertion.TheVariants.{TextStart, Line
 use Rattle.fancy_tree.specs.Sets.{has}
 use Rattle.fancy_bytes.specs.Items.{encoding, is_item, only}
 use Rattle.fancy_bytes.specs.Sets.{ByteFlags, member}
-use Rattle.fancy_prefilter.specs.Windows.{StandsFrom, set_at}
+use Rattle.fancy_bytes.specs.Rows.{StandsFrom, set_at, Wider, HasEncoding, HasItems, HasNone}
 use Rattle.fancy_prefilter.specs.KeyTables.{NoneMayStand}
 use Rattle.fancy_code.specs.Branches.{AreBranches, Chooses, OpensTo, TestsTo}
 use Rattle.fancy_prefilter.specs.declared.branches.Branches.{Branches}
@@ -24,7 +24,6 @@ use Rattle.fancy_code.specs.Run.{Raw, Note, Stop, Sign, choice_opened, returned,
 use Rattle.fancy_code.specs.Compile.{IsCodeOf, depth}
 use Rattle.fancy_input.specs.Lines.{is_line_feed}
 use Rattle.fancy_prefilter.specs.NextOpening.{FollowsNone}
-use Rattle.fancy_prefilter.specs.Rows.{Wider, HasEncoding, HasItems, HasNone}
 use Rattle.fancy_code.specs.Foretold.{Foretold, ForetoldPast, AreForetold, IsAnchored}
 use Rattle.fancy_meaning.specs.Search.{Query, answer_at, context_of, initial}
 use Rattle.fancy_meaning.proofs.BeginLemmas.{accepted_holds}

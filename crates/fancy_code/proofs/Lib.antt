@@ -27,3 +27,4 @@ pub mod BranchingLemmas
 pub mod ToldLemmas
 pub mod StayLemmas
 pub mod RegionLemmas
+pub mod EndsTextLemmas

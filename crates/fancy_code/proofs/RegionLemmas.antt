@@ -1,13 +1,15 @@
--- Where the text that a match has in it does not stand, no match begins.
+-- Where what a match goes on to does not stand, no match begins.
 use Rattle.std.proofs.Common.{◌≡◌, ℕ, ◌<◌, ◌≤◌, false, [], length, Option, Some, None, refl, sym, subst, arith, le_refl, slice_get, slice_index}
 use Rattle.std.specs.Prelude.{IfSome}
 use Rattle.std.proofs.lemmas.Option.{slice_get-get_or}
 use Rattle.fancy_bytes.specs.Reads.{item_starts}
-use Rattle.fancy_required.specs.Regions.{IsRequired}
+use Rattle.fancy_required.specs.Regions.{IsReach, IsTarget, StandsAhead}
 use Rattle.fancy_required.specs.Required.{told_bytes, required_text, StandsFrom}
-use Rattle.fancy_required.specs.declared.text.RequiredText.{RequiredText}
-use Rattle.fancy_prefilter.specs.NextOpening.{LacksRequired}
-use Rattle.fancy_prefilter.specs.Regions.{LacksText, before, nowhere}
+use Rattle.fancy_required.specs.declared.reach.Reach.{Reach}
+use Rattle.fancy_required.specs.declared.reach.Target.{Target}
+use Rattle.fancy_required.specs.declared.reach.Target.TheVariants.{Text, TextEnd}
+use Rattle.fancy_prefilter.specs.NextOpening.{LacksReach}
+use Rattle.fancy_prefilter.specs.Regions.{LacksTarget, before, nowhere}
 use Rattle.fancy_meaning.specs.Answers.{HasAccepted}
 use Rattle.fancy_meaning.specs.Forward.{EachOutcome, IsBetween}
 use Rattle.fancy_meaning.specs.Search.{Query, answer_at, context_of, initial, trace_at}
@@ -15,37 +17,43 @@ use Rattle.fancy_meaning.proofs.BeginLemmas.{accepted_holds}
 use Rattle.fancy_meaning.proofs.ForwardLemmas.{EachOutcome_imp, LeadsOn-trace}
 use Rattle.fancy_meaning.proofs.SearchLemmas.{is-no_answer}
 use Rattle.fancy_meaning.proofs.WalkLemmas.{EachOutcome_both}
+use Rattle.fancy_code.proofs.EndsTextLemmas.{trace_ends_text}
 use Rattle.fancy_code.proofs.StayLemmas.{trace_stays}
 use Rattle.fancy_code.proofs.ToldLemmas.{trace_told, longest_stands}
 
--- where each outcome of an attempt ends within a bound, the required text stands before it, if one is accepted
-stands_by : (q : Query) (p end : ℕ) → p ≤ q.request.range_end → EachOutcome (IsBetween p end) (trace_at q p) → HasAccepted q p → StandsFrom q.haystack p end (required_text q.sought.meaning q.sought.pattern)
-stands_by q p end to ends h =
+-- where each outcome of an attempt ends within a bound, what the pattern goes on to stands before it, if one is accepted
+stands_by : (t : Target) (q : Query) (p end : ℕ) → IsTarget q.sought.meaning q.sought.pattern t → p ≤ q.request.range_end → EachOutcome (IsBetween p end) (trace_at q p) → HasAccepted q p
+    → StandsAhead t q.haystack p end
+stands_by (Text text) q p end is to ends h =
     let told = told_bytes q.sought.meaning q.sought.pattern in
-    accepted_holds q p (λ t. StandsFrom q.haystack p end (required_text q.sought.meaning q.sought.pattern)) h
+    subst (StandsFrom q.haystack p end) (sym is)
+    (accepted_holds q p (λ t. StandsFrom q.haystack p end (required_text q.sought.meaning q.sought.pattern)) h
     (EachOutcome_imp _ (λ t. StandsFrom q.haystack p end (required_text q.sought.meaning q.sought.pattern)) (trace_at q p)
     (λ t both. longest_stands q.haystack p end told [] [] p p t.place (record { place = p; low = le_refl p; stands = tt }) (le_refl p) tt (omega arith) both.1.to both.0)
-    (EachOutcome_both _ (IsBetween p end) (trace_at q p) (trace_told (context_of q) q.request.range_end q.sought.pattern (initial q p) to) ends))
+    (EachOutcome_both _ (IsBetween p end) (trace_at q p) (trace_told (context_of q) q.request.range_end q.sought.pattern (initial q p) to) ends)))
+stands_by TextEnd q p end is to ends h =
+    accepted_holds q p (λ t. length q.haystack ≤ end) h
+    (EachOutcome_imp _ (λ t. length q.haystack ≤ end) (trace_at q p) (λ t both. omega (arith, both.0, both.1.to))
+    (EachOutcome_both _ (IsBetween p end) (trace_at q p) (trace_ends_text (context_of q) q.sought.pattern is q.request.range_end (initial q p)) ends))
 
--- each accepted outcome is of an attempt that the required text stands past
-pub required_stands : (q : Query) (p : ℕ) → p ≤ q.request.range_end → HasAccepted q p → StandsFrom q.haystack p q.request.range_end (required_text q.sought.meaning q.sought.pattern)
-required_stands q p to = stands_by q p q.request.range_end to (LeadsOn-trace (context_of q) q.request.range_end q.sought.pattern (initial q p) to)
+-- each accepted outcome is of an attempt that this stands past
+pub target_stands : (t : Target) (q : Query) (p : ℕ) → IsTarget q.sought.meaning q.sought.pattern t → p ≤ q.request.range_end → HasAccepted q p → StandsAhead t q.haystack p q.request.range_end
+target_stands t q p is to = stands_by t q p q.request.range_end is to (LeadsOn-trace (context_of q) q.request.range_end q.sought.pattern (initial q p) to)
 
 -- it stands before a byte with which no item of the pattern begins
-pub required_before : (q : Query) (p edge b : ℕ) → p ≤ edge → p ≤ q.request.range_end → slice_get q.haystack edge ≡ Some b → slice_index q.haystack edge ≡ b → b < 128
-    → item_starts q.sought.meaning q.sought.pattern b ≡ false → HasAccepted q p → StandsFrom q.haystack p edge (required_text q.sought.meaning q.sought.pattern)
-required_before q p edge b le to here value low other =
-    stands_by q p edge to (trace_stays (context_of q) q.request.range_end edge b here value low q.sought.pattern other (initial q p) le)
+pub target_before : (t : Target) (q : Query) (p edge b : ℕ) → IsTarget q.sought.meaning q.sought.pattern t → p ≤ edge → p ≤ q.request.range_end → slice_get q.haystack edge ≡ Some b
+    → slice_index q.haystack edge ≡ b → b < 128 → item_starts q.sought.meaning q.sought.pattern b ≡ false → HasAccepted q p → StandsAhead t q.haystack p edge
+target_before t q p edge b is le to here value low other =
+    stands_by t q p edge is to (trace_stays (context_of q) q.request.range_end edge b here value low q.sought.pattern other (initial q p) le)
 
 module _ (q : Query) (inside : q.request.range_end ≤ length q.haystack) (bytes : (k : ℕ) → slice_index q.haystack k < 256) (p : ℕ) (to : p ≤ q.request.range_end) where
-  lacks_none : (r : RequiredText) → IsRequired q.sought.meaning q.sought.pattern r → LacksText r q.haystack q.request.range_end p → answer_at q p ≡ None
-  lacks_none r is (nowhere none) =
-      is-no_answer q p (λ h. none (subst (StandsFrom q.haystack p q.request.range_end) (sym is.text) (required_stands q p to h)))
+  lacks_none : (r : Reach) → IsReach q.sought.meaning q.sought.pattern r → LacksTarget r q.haystack q.request.range_end p → answer_at q p ≡ None
+  lacks_none r is (nowhere none) = is-no_answer q p (λ h. none (target_stands r.target q p is.target to h))
   lacks_none r is (before edge le lt ends) =
       let b : ℕ = slice_index q.haystack edge in
-      is-no_answer q p (λ h. ends.none (subst (StandsFrom q.haystack p edge) (sym is.text)
-      (required_before q p edge b le to (slice_get-get_or q.haystack edge 0 (omega (arith, lt, inside))) refl ends.ascii (is.apart b (bytes edge) ends.apart) h)))
+      is-no_answer q p (λ h. ends.none
+      (target_before r.target q p edge b is.target le to (slice_get-get_or q.haystack edge 0 (omega (arith, lt, inside))) refl ends.ascii (is.apart b (bytes edge) ends.apart) h))
 
-  pub none_required : (o : Option RequiredText) → IfSome o (IsRequired q.sought.meaning q.sought.pattern) → LacksRequired o q.haystack q.request.range_end p → answer_at q p ≡ None
+  pub none_required : (o : Option Reach) → IfSome o (IsReach q.sought.meaning q.sought.pattern) → LacksReach o q.haystack q.request.range_end p → answer_at q p ≡ None
   none_required None is lacks = absurd lacks
   none_required (Some r) is lacks = lacks_none r is lacks

@@ -14,7 +14,7 @@ use Rattle.fancy_code.specs.Run.{Raw, Note, Go, fetched, Foretells, act, before,
 use Rattle.fancy_code.specs.Thread.{IsKnown, events_of}
 use Rattle.fancy_code.specs.Texts.{GivesEvents, BeginsWith, EndsWith, ConsumesTo}
 use Rattle.fancy_code.proofs.ForetoldLemmas.{before_told, onward_told, foretells_all, foretells_imply, item_at}
-use Rattle.fancy_prefilter.proofs.ItemBytesLemmas.{low_text}
+use Rattle.fancy_bytes.proofs.ItemBytesLemmas.{low_text}
 use Rattle.fancy_meaning.proofs.ReadingLemmas.{low_unit}
 
 -- an ASCII character is its byte

@@ -17,7 +17,7 @@ use Rattle.fancy_meaning.specs.Easy.{is_easy}
 use Rattle.fancy_code.specs.Code.{instrs_of}
 use Rattle.fancy_code.specs.Branches.{AreBranches}
 use Rattle.fancy_prefilter.specs.Prefilters.{text_in, window_in, branches_in}
-use Rattle.fancy_required.specs.Regions.{IsRequired}
+use Rattle.fancy_required.specs.Regions.{IsReach}
 use Rattle.fancy_code.specs.Foretold.{AreForetold, StartsAt}
 use Rattle.fancy_code.specs.Run.{instr_at}
 
@@ -257,7 +257,7 @@ pub record IsCodeOf (p : Pattern) (code : Code) : Type 0 where
   pub foretold : IfSome (window_in code.prefilter.opening) (λ sets. AreForetold sets code)
   pub anchored : StartsAt code.prefilter.anchor (instrs_of code) code.start
   pub branched : HasBranches code
-  pub required : IfSome code.prefilter.region (IsRequired code.meaning p)
+  pub required : IfSome code.prefilter.region (IsReach code.meaning p)
 
 -- An instruction that reads neither captures nor where groups began, and that ends no way early.
 abbrev pub IsEasyInstr : Instruction → Type 0

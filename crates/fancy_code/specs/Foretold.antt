@@ -7,7 +7,7 @@ use Rattle.fancy_tree.specs.declared.tree.Meaning.{Meaning}
 use Rattle.fancy_bytes.specs.Sets.{ByteFlags, member}
 use Rattle.fancy_prefilter.specs.declared.prefilter.Anchor.{Anchor}
 use Rattle.fancy_prefilter.specs.declared.prefilter.Anchor.TheVariants.{Anywhere, AtStart, AtLines}
-use Rattle.fancy_prefilter.specs.Windows.{StandsFrom}
+use Rattle.fancy_bytes.specs.Rows.{StandsFrom}
 use Rattle.fancy_code.specs.Code.{instrs_of}
 use Rattle.fancy_meaning.specs.Context.{Context, State, holds, moved_to, past_item}
 use Rattle.fancy_code.specs.Instructions.{Instruction}

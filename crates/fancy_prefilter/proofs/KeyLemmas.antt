@@ -3,7 +3,7 @@ use Rattle.std.proofs.Common.{◌≡◌, ℕ, suc, ◌+◌, ◌-◌, ◌<◌, �
 use Rattle.std.proofs.lemmas.Bool.{cases_eq}
 use Rattle.std.proofs.lemmas.List.{get_or-take, length-take-le}
 use Rattle.fancy_bytes.specs.Sets.{ByteFlags, member}
-use Rattle.fancy_prefilter.specs.Windows.{set_at, StandsFrom}
+use Rattle.fancy_bytes.specs.Rows.{set_at, StandsFrom}
 use Rattle.fancy_prefilter.specs.Keys.{mixed, key_from, key_at, IsAmong, Covers, IsCovered}
 use Rattle.fancy_prefilter.specs.LastKeys.{AreLast}
 

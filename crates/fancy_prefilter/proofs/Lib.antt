@@ -1,10 +1,9 @@
-pub mod ScanLemmas
-pub mod WindowLemmas
+pub mod KeyLemmas
 pub mod LaneLemmas
 pub mod MarkLemmas
-pub mod ProbeLemmas
-pub mod KeyLemmas
-pub mod StandsLemmas
-pub mod RegionLemmas
-pub mod ItemBytesLemmas
 pub mod NextLemmas
+pub mod ProbeLemmas
+pub mod RegionLemmas
+pub mod ScanLemmas
+pub mod StandsLemmas
+pub mod WindowLemmas

@@ -2,7 +2,7 @@
 use Rattle.std.proofs.Common.{◌≡◌, ℕ, ◌+◌, ◌<◌, List, slice_index, subst, arith, bit_and}
 use Rattle.fancy_bytes.specs.Sets.{ByteFlags}
 use Rattle.fancy_prefilter.specs.HalfTables.{LetsThrough, AreMarks}
-use Rattle.fancy_prefilter.specs.Windows.{StandsFrom}
+use Rattle.fancy_bytes.specs.Rows.{StandsFrom}
 use Rattle.fancy_prefilter.specs.Probes.{IsProbeOf, AreProbesOf, LetsBegin, LetBegin}
 use Rattle.fancy_prefilter.specs.declared.probes.Probe.{Probe}
 use Rattle.fancy_prefilter.specs.declared.probes.Probes.{Probes}

@@ -4,9 +4,12 @@ use Rattle.std.specs.Prelude.{slice_range}
 use Rattle.memchr.specs.Find.{OccursAt, Nowhere}
 use Rattle.fancy_bytes.specs.Openings.{StandsBefore}
 use Rattle.fancy_required.specs.Required.{StandsFrom}
-use Rattle.fancy_required.specs.declared.text.RequiredText.{RequiredText}
-use Rattle.fancy_prefilter.specs.Regions.{EndsRegion, LacksText, before, nowhere}
-use Rattle.fancy_prefilter.specs.NextOpening.{LacksRequired, StartsNot, by_text}
+use Rattle.fancy_required.specs.Regions.{StandsAhead}
+use Rattle.fancy_required.specs.declared.reach.Reach.{Reach}
+use Rattle.fancy_required.specs.declared.reach.Target.{Target}
+use Rattle.fancy_required.specs.declared.reach.Target.TheVariants.{Text, TextEnd}
+use Rattle.fancy_prefilter.specs.Regions.{EndsRegion, LacksTarget, before, nowhere}
+use Rattle.fancy_prefilter.specs.NextOpening.{LacksReach, StartsNot, by_text}
 use Rattle.fancy_prefilter.specs.declared.prefilter.Prefilter.{Prefilter}
 use Rattle.fancy_prefilter.proofs.StandsLemmas.{none_stands}
 
@@ -33,18 +36,19 @@ none_before haystack from end ordered inside text found edge after lower within 
       none_stands haystack from end ordered inside (b ∷ bs) found (from + found) refl (omega (arith, within)) none s.place s.low (omega (arith, stands.0, lower))
       (stands_wider haystack edge end (b ∷ bs) s.place (omega (arith, lower, within)) stands)
 
--- where it stands nowhere from a place on, it stands nowhere from a later one on
-pub none_later : (haystack : List ℕ) (from k end : ℕ) (text : List ℕ) → from ≤ k → ¬ StandsFrom haystack from end text → ¬ StandsFrom haystack k end text
-none_later haystack from k end text le none s = none (record { place = s.place; low = le_trans le s.low; stands = s.stands })
+-- where the target stands nowhere from a place on, it stands nowhere from a later one on
+pub none_later : (t : Target) (haystack : List ℕ) (from k end : ℕ) → from ≤ k → ¬ StandsAhead t haystack from end → ¬ StandsAhead t haystack k end
+none_later (Text text) haystack from k end le none s = none (record { place = s.place; low = le_trans le s.low; stands = s.stands })
+none_later TextEnd haystack from k end le none s = none s
 
 -- so it is of an edge
-pub lacks_before : (r : RequiredText) (haystack : List ℕ) (from k edge end : ℕ) → from ≤ k → k ≤ edge → edge < end → EndsRegion r haystack from edge → LacksText r haystack end k
+pub lacks_before : (r : Reach) (haystack : List ℕ) (from k edge end : ℕ) → from ≤ k → k ≤ edge → edge < end → EndsRegion r haystack from edge → LacksTarget r haystack end k
 lacks_before r haystack from k edge end le within lt is =
-    before edge within lt (record { ascii = is.ascii; apart = is.apart; none = none_later haystack from k edge r.text.items le is.none })
+    before edge within lt (record { ascii = is.ascii; apart = is.apart; none = none_later r.target haystack from k edge le is.none })
 
 -- where it does not stand, no match starts
-pub starts_not : (f : Prefilter) (r : RequiredText) (haystack : List ℕ) (end p : ℕ) → f.region ≡ Some r → LacksText r haystack end p → StartsNot f haystack end p
-starts_not f r haystack end p is lacks = by_text (subst (λ (o : Option RequiredText). LacksRequired o haystack end p) (sym is) lacks)
+pub starts_not : (f : Prefilter) (r : Reach) (haystack : List ℕ) (end p : ℕ) → f.region ≡ Some r → LacksTarget r haystack end p → StartsNot f haystack end p
+starts_not f r haystack end p is lacks = by_text (subst (λ (o : Option Reach). LacksReach o haystack end p) (sym is) lacks)
 
-pub lacks_from : (r : RequiredText) (haystack : List ℕ) (from k end : ℕ) → from ≤ k → ¬ StandsFrom haystack from end r.text.items → LacksText r haystack end k
-lacks_from r haystack from k end le none = nowhere (none_later haystack from k end r.text.items le none)
+pub lacks_from : (r : Reach) (haystack : List ℕ) (from k end : ℕ) → from ≤ k → ¬ StandsAhead r.target haystack from end → LacksTarget r haystack end k
+lacks_from r haystack from k end le none = nowhere (none_later r.target haystack from k end le none)

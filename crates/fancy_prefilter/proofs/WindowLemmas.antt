@@ -1,9 +1,10 @@
 -- Windows that are moved over a haystack.
-use Rattle.std.proofs.Common.{◌≡◌, ℕ, ◌+◌, ◌-◌, ◌<◌, ◌≤◌, false, inl, inr, List, length, slice_index, sym, ap, subst, ◌∙◌, arith, true≢false}
+use Rattle.std.proofs.Common.{◌≡◌, ℕ, ◌+◌, ◌-◌, ◌<◌, ◌≤◌, false, inl, inr, List, length, slice_index, sym, ap, ◌∙◌, arith, true≢false}
 use Rattle.std.specs.Prelude.{Option, None, Some, MatchOption}
 use Rattle.std.proofs.lemmas.Bool.{cases_eq, cases_lt}
 use Rattle.fancy_bytes.specs.Sets.{ByteFlags, member}
-use Rattle.fancy_prefilter.specs.Windows.{set_at, StandsFrom, NoneStandsIn, IsSkip}
+use Rattle.fancy_bytes.specs.Rows.{set_at, StandsFrom}
+use Rattle.fancy_prefilter.specs.Windows.{NoneStandsIn, IsSkip}
 
 module _ (sets : List ByteFlags) (haystack : List ℕ) (end : ℕ) where
   -- a window that would pass the end is none
@@ -63,14 +64,6 @@ skip_none sets byte passed set within is lacks before j inside late =
     elim (cases_eq j (length sets - 1 - passed)) [
       | inl same ↦ ap (λ (i : ℕ). member (set_at sets i) byte) same ∙ ap (λ (s : ByteFlags). member s byte) (sym is) ∙ lacks
       | inr other ↦ before j inside (omega (arith, other, late, inside, within))
-    ]
-
-pub skips_on : (sets : List ByteFlags) (skips next : List ℕ) (byte skip : ℕ) → ((b : ℕ) → b < byte → slice_index next b ≡ slice_index skips b) → slice_index next byte ≡ skip
-    → IsSkip sets byte skip → ((b : ℕ) → b < byte → IsSkip sets b (slice_index skips b)) → (b : ℕ) → b < byte + 1 → IsSkip sets b (slice_index next b)
-skips_on sets skips next byte skip kept here is before b lt =
-    elim (cases_eq b byte) [
-      | inl same ↦ rw same (subst (λ (n : ℕ). IsSkip sets byte n) (sym here) is)
-      | inr other ↦ subst (λ (n : ℕ). IsSkip sets b n) (sym (kept b (omega (arith, other, lt)))) (before b (omega (arith, other, lt)))
     ]
 
 -- From 32 windows, which an earlier end is enough for, to the end. It is known that none stands before one of them.

@@ -4,7 +4,7 @@ use Rattle.std.specs.Global.{Vec}
 use Rattle.fancy_prefilter.specs.declared.key_table.KeyTable.{KeyTable}
 use Rattle.fancy_prefilter.specs.Keys.{IsAmong, key_at}
 use Rattle.fancy_bytes.specs.Sets.{ByteFlags}
-use Rattle.fancy_prefilter.specs.Windows.{StandsFrom}
+use Rattle.fancy_bytes.specs.Rows.{StandsFrom}
 
 -- the table has the number at this key
 abbrev pub HasAt : KeyTable → ℕ → ℕ → Type 0

@@ -2,9 +2,9 @@
 use Rattle.std.specs.Prelude.{◌≡◌, ℕ, zero, suc, ◌+◌, ◌<◌, ◌≤◌, false, List, Option, Some, None, slice_index}
 use Rattle.fancy_bytes.specs.Sets.{ByteFlags, member}
 use Rattle.fancy_bytes.specs.Openings.{StandsBefore}
-use Rattle.fancy_prefilter.specs.Regions.{LacksText}
-use Rattle.fancy_prefilter.specs.Windows.{StandsFrom}
-use Rattle.fancy_required.specs.declared.text.RequiredText.{RequiredText}
+use Rattle.fancy_prefilter.specs.Regions.{LacksTarget}
+use Rattle.fancy_bytes.specs.Rows.{StandsFrom}
+use Rattle.fancy_required.specs.declared.reach.Reach.{Reach}
 use Rattle.fancy_prefilter.specs.KeyTables.{NoneMayStand}
 use Rattle.fancy_prefilter.specs.Seen.{MayNotStart, NoneMayStart}
 use Rattle.fancy_prefilter.specs.declared.prefilter.Anchor.{Anchor}
@@ -37,9 +37,9 @@ IsOffAnchor AtStart haystack p = 0 < p
 IsOffAnchor (AtLines set) haystack p = FollowsNone set haystack p
 
 -- the text that each match has in it does not stand where a match from p on might have it
-abbrev pub LacksRequired : Option RequiredText → List ℕ → ℕ → ℕ → Type 0
-LacksRequired None haystack range_end p = ⊥
-LacksRequired (Some r) haystack range_end p = LacksText r haystack range_end p
+abbrev pub LacksReach : Option Reach → List ℕ → ℕ → ℕ → Type 0
+LacksReach None haystack range_end p = ⊥
+LacksReach (Some r) haystack range_end p = LacksTarget r haystack range_end p
 
 -- no match starts at p: by its first byte, since it would start past the text's start or within a line, by what it opens with, or by what
 -- it has in it
@@ -47,7 +47,7 @@ pub data StartsNot (f : Prefilter) (haystack : List ℕ) (range_end p : ℕ) : T
   by_byte : MayNotStart f.starts haystack range_end p → StartsNot f haystack range_end p
   by_anchor : IsOffAnchor f.anchor haystack p → StartsNot f haystack range_end p
   by_opening : LacksOpening f.opening haystack range_end p → StartsNot f haystack range_end p
-  by_text : LacksRequired f.region haystack range_end p → StartsNot f haystack range_end p
+  by_text : LacksReach f.region haystack range_end p → StartsNot f haystack range_end p
 
 -- p is a place, from the one on and up to the other, at which a search may go on, since no match starts before it; or it is past both. Where no match starts by its first byte, it is past both.
 pub record IsNextOpening (f : Prefilter) (haystack : List ℕ) (range_end from last p : ℕ) : Type 0 where

@@ -2,7 +2,7 @@
 use Rattle.std.specs.Prelude.{ℕ, ◌+◌, ◌<◌, List, length, slice_index}
 use Rattle.fancy_bytes.specs.Sets.{ByteFlags}
 use Rattle.fancy_prefilter.specs.HalfTables.{LetsThrough, LetMembersThrough}
-use Rattle.fancy_prefilter.specs.Windows.{set_at}
+use Rattle.fancy_bytes.specs.Rows.{set_at}
 use Rattle.fancy_prefilter.specs.declared.probes.Probe.{Probe}
 use Rattle.fancy_prefilter.specs.declared.probes.Probes.{Probes}
 

@@ -1,15 +1,7 @@
--- Rows of sets of bytes, one for each place of a window that begins somewhere in a haystack.
-use Rattle.std.specs.Prelude.{◌≡◌, ℕ, ◌+◌, ◌<◌, ◌≤◌, true, false, List, [], length, slice_index, slice_index_or}
+-- Where no window of a haystack has a byte of each set of a row, and how far one may be moved on.
+use Rattle.std.specs.Prelude.{◌≡◌, ℕ, ◌+◌, ◌<◌, ◌≤◌, false, List, length, slice_index}
+use Rattle.fancy_bytes.specs.Rows.{set_at, StandsFrom}
 use Rattle.fancy_bytes.specs.Sets.{ByteFlags, member}
-
--- the set with this number; past the row it has no member
-abbrev pub set_at : List ByteFlags → ℕ → ByteFlags
-set_at sets j = slice_index_or sets j []
-
--- From the set with the number `from` on, a byte of each stands at its place of the window that begins at p, before the end.
-abbrev pub StandsFrom : List ByteFlags → List ℕ → ℕ → ℕ → ℕ → Type 0
-StandsFrom sets haystack end from p =
-    (j : ℕ) → from ≤ j → j < length sets → (p + j < end) × (member (set_at sets j) (slice_index haystack (p + j)) ≡ true)
 
 -- in no window that begins from the one place on and before the other does a byte of each set stand
 abbrev pub NoneStandsIn : List ByteFlags → List ℕ → ℕ → ℕ → ℕ → Type 0

@@ -8,10 +8,10 @@ ghost use Rattle.fancy_prefilter.specs.Seen.{IsNextCandidate, MayNotStart, MaySt
 use crate::branches::Branches;
 use crate::literal::Literal;
 use crate::prefilter::{Anchor, Opening, Prefilter};
-use crate::region::next_region;
+use crate::region::{is_worth_looking, next_region};
 use crate::scan::Scan;
 use crate::window::Window;
-use fancy_required::text::RequiredText;
+use fancy_required::reach::Reach;
 
 /// At so many places of a line it is looked at what each match opens with.
 const PLACES: usize = 8;
@@ -284,20 +284,20 @@ fn next_by_opening(
 /// with, up to the next text from there on.
 fn next_by_regions(
     prefilter: &Prefilter,
-    required: &RequiredText,
+    reach: &Reach,
     haystack: &[u8],
     range_end: usize,
     from: usize,
     region: &mut Option<usize>,
 ) -> usize
-    requires region { prefilter.now.region ≡ Some required.now }
+    requires region { prefilter.now.region ≡ Some reach.now }
     requires ordered { from ≤ range_end + 1 }
     requires inside { range_end ≤ length haystack.now }
     ensures { IsNextOpening prefilter.now haystack.now range_end from range_end result }
 {
     let mut place = from;
     while place <= range_end {
-        let Some((start, text)) = next_region(required, haystack, place, range_end) else {
+        let Some((start, text)) = next_region(reach, haystack, place, range_end) else {
             return range_end + 1;
         };
         let opening = next_by_opening(prefilter, haystack, range_end, start, range_end);
@@ -325,10 +325,10 @@ fn next_in_region(
     requires inside { range_end ≤ length haystack.now }
     ensures { IsNextOpening prefilter.now haystack.now range_end from last result }
 {
-    let Some(required) = &prefilter.region else {
+    let Some(reach) = &prefilter.region else {
         return next_by_opening(prefilter, haystack, range_end, from, last);
     };
-    if last < range_end {
+    if last < range_end || !is_worth_looking(reach, range_end.saturating_sub(from)) {
         return next_by_opening(prefilter, haystack, range_end, from, last);
     }
     if let Some(text) = *region {
@@ -337,10 +337,10 @@ fn next_in_region(
             if opening <= text {
                 return opening;
             }
-            return next_by_regions(prefilter, required, haystack, last, opening, region);
+            return next_by_regions(prefilter, reach, haystack, last, opening, region);
         }
     }
-    next_by_regions(prefilter, required, haystack, last, from, region)
+    next_by_regions(prefilter, reach, haystack, last, from, region)
 }
 
 /// The first position, from the one on and up to the last, at which a search goes on, past the last where there is none: no

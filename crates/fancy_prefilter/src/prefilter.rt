@@ -5,15 +5,15 @@ ghost use Rattle.fancy_tree.specs.Pattern.{pattern_of};
 ghost use Rattle.fancy_bytes.specs.Firsts.{AreStartBytes};
 ghost use Rattle.fancy_bytes.specs.Openings.{opening};
 ghost use Rattle.fancy_prefilter.specs.Prefilters.{branches_in, text_in, window_in};
-ghost use Rattle.fancy_required.specs.Regions.{IsRequired};
+ghost use Rattle.fancy_required.specs.Regions.{IsReach};
 
 use crate::branches::Branches;
 use crate::literal::{Literal, opening_literal};
-use crate::rows;
 use crate::scan::{Scan, start_scan};
 use crate::window::Window;
 use fancy_bytes::byte_set::ByteSet;
-use fancy_required::text::RequiredText;
+use fancy_bytes::rows;
+use fancy_required::reach::Reach;
 use fancy_tree::tree::{Meaning, Tree};
 use std::alloc::{AllocError, Global};
 
@@ -74,8 +74,8 @@ pub struct Prefilter {
     pub anchor: Anchor,
     /// What each match opens with.
     pub opening: Opening,
-    /// A text that each match has in it, if one is told that texts have seldom.
-    pub region: Option<RequiredText>,
+    /// What each match goes on to, a text or the end of the text.
+    pub region: Option<Reach>,
 }
 
 /// The text that whatever the pattern matches opens with, if there is one of two bytes or more. It is refused where memory
@@ -105,11 +105,11 @@ impl Prefilter {
         ensures text { IfOk result (λ f. IfSome (text_in f.opening) (λ text. text ≡ opening meaning (pattern_of tree.now))) }
         ensures window { IfOk result (λ f. window_in f.opening ≡ None) }
         ensures branches { IfOk result (λ f. branches_in f.opening ≡ None) }
-        ensures region { IfOk result (λ f. IfSome f.region (IsRequired meaning (pattern_of tree.now))) }
+        ensures region { IfOk result (λ f. IfSome f.region (IsReach meaning (pattern_of tree.now))) }
     {
         let starts = start_scan(tree, meaning);
         let opening = text_opening(alloc, tree, meaning)?;
-        let region = RequiredText::new(alloc, tree, meaning)?;
+        let region = Reach::new(alloc, tree, meaning)?;
         Ok(Prefilter {
             starts,
             anchor: Anchor::Anywhere,

@@ -1,46 +1,75 @@
-//! The part of a haystack in which a match may be that has a text in it.
+//! The part of a haystack in which a match may be that goes on to a text, or to the end of the text.
 
-ghost use Rattle.std.specs.Prelude.{◌≡◌, ◌≤◌, ◌<◌, ◌+◌, ◌-◌, None, length, IfSome};
-ghost use Rattle.fancy_required.specs.Required.{StandsFrom};
+ghost use Rattle.std.specs.Prelude.{◌≡◌, ◌≤◌, ◌<◌, ◌+◌, ◌-◌, ℕ, None, length, IfSome};
+ghost use Rattle.fancy_required.specs.Regions.{StandsAhead};
 ghost use Rattle.fancy_prefilter.specs.Regions.{EndsRegion};
 
-use fancy_required::text::RequiredText;
+use fancy_required::reach::{Reach, Target};
 use memchr::memmem;
 
 /// It goes back over so many bytes at most. Where a match may have all of them, it may begin anywhere.
 const FAR: usize = 256;
 
-/// The first place, from one on, from which a match may go on to the text, and the place of that, both byte offsets. `None` where the
-/// text stands nowhere from there on and before the end.
+/// Whether it is worth to look for a target where so many bytes are left: for the end of the text, where they are many.
+pub(crate) fn is_worth_looking(reach: &Reach, bytes: usize) -> bool {
+    bytes > FAR || matches!(reach.target, Target::Text(_))
+}
+
+/// The first place, from one on and up to the end, at which the target stands.
+fn next_target(target: &Target, haystack: &[u8], from: usize, end: usize) -> Option<usize>
+    requires ordered { from ≤ end }
+    requires within { end ≤ length haystack.now }
+    ensures none { result ≡ None → ¬ StandsAhead target.now haystack.now from end }
+    ensures passed { IfSome result (λ place. from ≤ place) }
+    ensures inside { IfSome result (λ place. place ≤ end) }
+    ensures first { IfSome result (λ place.
+        (edge : ℕ) → from ≤ edge → edge < place → ¬ StandsAhead target.now haystack.now from edge) }
+{
+    match target {
+        Target::Text(text) => {
+            let found = memmem::find(&haystack[from..end], text)?;
+            Some(from + found)
+        }
+        Target::TextEnd => {
+            if end < haystack.len() {
+                return None;
+            }
+            Some(end)
+        }
+    }
+}
+
+/// The first place, from one on, from which a match may go on to the target, and the place of that, both byte offsets. `None` where the
+/// target stands nowhere from there on and before the end.
 ///
 /// ```text
-/// next_region(&required, b"to: joe@x.org", 0, 13)    // of `[a-z]+@x` Some(4, 7)
-/// next_region(&required, b"to: joe", 0, 7)           // None
+/// next_region(&reach, b"to: joe@x.org", 0, 13)    // of `[a-z]+@x` Some(4, 7)
+/// next_region(&reach, b"to: joe", 0, 7)           // None
+/// next_region(&reach, b"to: joe", 0, 7)           // of `[a-z]+$` Some(4, 7)
 /// ```
 pub(crate) fn next_region(
-    required: &RequiredText,
+    reach: &Reach,
     haystack: &[u8],
     from: usize,
     end: usize,
 ) -> Option<(usize, usize)>
     requires ordered { from ≤ end }
     requires within { end ≤ length haystack.now }
-    ensures none { result ≡ None → ¬ StandsFrom haystack.now from end required.now.text.items }
+    ensures none { result ≡ None → ¬ StandsAhead reach.now.target haystack.now from end }
     ensures passed { IfSome result (λ r. from ≤ r.0) }
     ensures before { IfSome result (λ r. r.0 ≤ r.1) }
     ensures inside { IfSome result (λ r. r.1 ≤ end) }
     ensures region { IfSome result (λ r. from < r.0
-        → EndsRegion required.now haystack.now from (r.0 - 1)) }
+        → EndsRegion reach.now haystack.now from (r.0 - 1)) }
 {
-    let found = memmem::find(&haystack[from..end], required.text())?;
-    let text = from + found;
-    let farthest = text.saturating_sub(FAR).max(from);
-    let mut start = text;
+    let target = next_target(&reach.target, haystack, from, end)?;
+    let farthest = target.saturating_sub(FAR).max(from);
+    let mut start = target;
     while start > farthest {
-        if !required.may_have(haystack[start - 1]) {
-            return Some((start, text));
+        if !reach.may_have(haystack[start - 1]) {
+            return Some((start, target));
         }
         start -= 1;
     }
-    Some((from, text))
+    Some((from, target))
 }

@@ -5,7 +5,8 @@
 
 ghost use Rattle.std.specs.Prelude.{◌≡◌, ◌↔◌, ℕ, ◌+◌, ◌<◌, ◌≤◌, List, false, length, slice_index, IfOk, IfSome, IsTrue, MatchOption};
 ghost use Rattle.fancy_bytes.specs.Sets.{ByteFlags};
-ghost use Rattle.fancy_prefilter.specs.Windows.{StandsFrom, NoneStandsIn, IsSkip, AreSkips};
+ghost use Rattle.fancy_bytes.specs.Rows.{StandsFrom};
+ghost use Rattle.fancy_prefilter.specs.Windows.{NoneStandsIn, IsSkip, AreSkips};
 ghost use Rattle.fancy_prefilter.specs.HalfTables.{AreMarks};
 ghost use Rattle.fancy_prefilter.specs.Probes.{AreProbesOf};
 

@@ -9,7 +9,7 @@ use Rattle.fancy_tree.specs.declared.tree.Meaning.{Meaning}
 use Rattle.fancy_tree.specs.declared.tree.Meaning.TheVariants.{Unicode, Bytes, AsciiText}
 use Rattle.fancy_bytes.specs.Items.{encoding}
 use Rattle.fancy_meaning.specs.Context.{Context, past_item}
-use Rattle.fancy_prefilter.proofs.ItemBytesLemmas.{low_text}
+use Rattle.fancy_bytes.proofs.ItemBytesLemmas.{low_text}
 use Rattle.fancy_code.proofs.ForetoldLemmas.{item_at}
 use Rattle.fancy_prices.specs.Prices.{BeginsNone}
 

@@ -14,7 +14,7 @@ use Rattle.fancy_meaning.specs.Events.{ends_look}
 use Rattle.fancy_tree.specs.Sets.{has}
 use Rattle.fancy_code.specs.Instructions.{Instruction, Match, Back, Character, Look, Member, Split}
 use Rattle.fancy_code.specs.Run.{Raw, Go, join, onward, resume, instr_at, act, run}
-use Rattle.fancy_prefilter.proofs.ItemBytesLemmas.{low_text}
+use Rattle.fancy_bytes.proofs.ItemBytesLemmas.{low_text}
 use Rattle.fancy_code.proofs.ForetoldLemmas.{ItemAt, item_at}
 use Rattle.fancy_prices.specs.declared.facts.Before.{Before}
 use Rattle.fancy_prices.specs.declared.facts.Ending.{Ending}

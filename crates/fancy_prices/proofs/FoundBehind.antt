@@ -15,7 +15,7 @@ use Rattle.fancy_meaning.specs.Context.{Context, State, Unit_at, moved_to, one_c
 use Rattle.fancy_meaning.specs.Events.{any, ends_look}
 use Rattle.fancy_code.specs.Instructions.{Instruction, Back, Deny, Match, Member}
 use Rattle.fancy_code.specs.Run.{Raw, Note, Stop, choice_opened, returned, fetched, before, guard, fenced, halt, onward, instr_at, act, run}
-use Rattle.fancy_prefilter.proofs.ItemBytesLemmas.{low_text}
+use Rattle.fancy_bytes.proofs.ItemBytesLemmas.{low_text}
 use Rattle.fancy_prices.specs.declared.facts.Before.{Before}
 use Rattle.fancy_prices.specs.declared.facts.Facts.{Facts}
 use Rattle.fancy_prices.specs.Facts.{IsAlways, IsByteOf, IsOfKind}

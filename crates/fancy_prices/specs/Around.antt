@@ -4,7 +4,7 @@ use Rattle.fancy_bytes.specs.Sets.{ByteFlags, member}
 use Rattle.fancy_prefilter.specs.declared.prefilter.Anchor.TheVariants.{Anywhere}
 use Rattle.fancy_prefilter.specs.declared.prefilter.Prefilter.{Prefilter}
 use Rattle.fancy_prefilter.specs.Prefilters.{window_in}
-use Rattle.fancy_prefilter.specs.Windows.{set_at}
+use Rattle.fancy_bytes.specs.Rows.{set_at}
 use Rattle.fancy_code.specs.declared.code.Code.{Code}
 use Rattle.fancy_code.specs.Code.{instrs_of}
 use Rattle.fancy_prices.specs.declared.facts.Ending.TheVariants.{Second}

@@ -15,8 +15,8 @@ ghost use Rattle.fancy_prices.specs.Prices.{BeginsNone, Dies, DiesBehind, EndsOt
 use crate::facts::{Before, Ending, Facts, may_end_with};
 use crate::kinds::Kind;
 use crate::price::Price;
+use fancy_bytes::items::is_ascii;
 use fancy_code::code::{Code, Instr};
-use fancy_prefilter::items::is_ascii;
 use fancy_tree::char_set::CharSet;
 use fancy_tree::tree::Meaning;
 

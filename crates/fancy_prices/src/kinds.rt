@@ -8,8 +8,8 @@ ghost use Rattle.fancy_prices.specs.Kinds.{AreWords};
 
 use crate::free::is_match;
 use fancy_bytes::byte_set::ByteSet;
+use fancy_bytes::items::is_ascii;
 use fancy_code::code::{Code, Instr};
-use fancy_prefilter::items::is_ascii;
 use fancy_tree::char_set::CharSet;
 use fancy_tree::tree::Assertion;
 use std::alloc::{AllocError, Global};

@@ -1,1 +1,2 @@
+pub mod EndsLemmas
 pub mod RunLemmas

@@ -1,3 +1,4 @@
 pub mod Required
 pub mod Runs
 pub mod Regions
+pub mod Ends

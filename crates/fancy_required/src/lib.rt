@@ -1,4 +1,5 @@
-//! The text that every match has in it.
+//! What every match goes on to.
 #![tactic(auto)]
 
+pub mod reach;
 pub mod text;

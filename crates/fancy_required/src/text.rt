@@ -2,12 +2,8 @@
 
 ghost use Rattle.std.specs.Prelude.{◌≡◌, ◌≤◌, ◌<◌, ◌+◌, ◌-◌, ℕ, List, Some, None, false, [], ◌∷◌, map, length, IfOk, IfSome, encode_utf8};
 ghost use Rattle.fancy_tree.specs.Pattern.{pattern_of, character};
-ghost use Rattle.fancy_bytes.specs.Sets.{member};
-ghost use Rattle.fancy_required.specs.Required.{gap, told_bytes, told_in_row};
+ghost use Rattle.fancy_required.specs.Required.{gap, told_bytes, told_in_row, required_text};
 
-use fancy_bytes::byte_set::ByteSet;
-use fancy_bytes::opening::opening_text;
-use fancy_bytes::reads::add_item_starts;
 use fancy_tree::tree::{Meaning, Tree};
 use std::alloc::{AllocError, Global};
 use std::mem::swap;
@@ -142,56 +138,21 @@ fn is_letter(byte: u8) -> bool {
     byte.is_ascii_alphanumeric() || byte >= 0x80
 }
 
+/// The longest text that every match has in it, as far as it is told. It is refused where memory runs out.
+pub(crate) fn required_text(
+    alloc: Global,
+    tree: &Tree,
+    meaning: Meaning,
+) -> Result<Vec<u8>, AllocError>
+    ensures { IfOk result (λ text. text.items ≡ required_text meaning (pattern_of tree.now)) }
+{
+    let mut runs = Runs::new(alloc);
+    runs.add(tree, meaning)?;
+    Ok(runs.into_longest())
+}
+
 /// Whether texts have it seldom: a byte of it is rare, or two bytes of it are letters, digits or past ASCII.
-fn stands_seldom(text: &[u8]) -> bool {
+pub(crate) fn stands_seldom(text: &[u8]) -> bool {
     let letters = text.iter().filter(|byte| is_letter(**byte)).count();
     letters >= 2 || text.iter().any(|byte| is_rare(*byte))
-}
-
-/// A text that every match has in it, and the bytes that a match may have.
-#[derive(Drop)]
-pub struct RequiredText {
-    text: Vec<u8>,
-    /// The bytes with which items of the pattern begin.
-    reads: ByteSet,
-}
-
-impl RequiredText {
-    ghost use Rattle.fancy_required.specs.Regions.{IsRequired};
-
-    /// The longest that the pattern tells, if texts have it seldom. None where each match begins with a text of two bytes or more, which
-    /// is scanned for anyway. It is refused where memory runs out.
-    pub fn new(
-        alloc: Global,
-        tree: &Tree,
-        meaning: Meaning,
-    ) -> Result<Option<RequiredText>, AllocError>
-        ensures { IfOk result (λ o. IfSome o (IsRequired meaning (pattern_of tree.now))) }
-    {
-        let mut runs = Runs::new(alloc);
-        runs.add(tree, meaning)?;
-        let text = runs.into_longest();
-        let opening = opening_text(alloc, tree, meaning)?;
-        if opening.len() >= 2 || text.len() <= opening.len() || !stands_seldom(&text) {
-            return Ok(None);
-        }
-        let mut reads = ByteSet::new();
-        add_item_starts(tree, meaning, &mut reads);
-        Ok(Some(RequiredText { text, reads }))
-    }
-
-    /// The text.
-    pub fn text(&self) -> &[u8]
-        ensures { result.now ≡ self.now.text.items }
-    {
-        &self.text
-    }
-
-    /// Whether a match may have the byte in it. One that is not ASCII may be within a character.
-    pub fn may_have(&self, byte: u8) -> bool
-        ensures ascii { result ≡ false → byte < 128 }
-        ensures apart { result ≡ false → member self.now.reads byte ≡ false }
-    {
-        byte >= 0x80 || self.reads.contains(byte)
-    }
 }

@@ -153,8 +153,8 @@ pub(crate) struct Candidates {
     fourth: [Groups; 256],
     fifth: [Groups; 256],
     sixth: [Groups; 256],
-    // how many members a group has
-    width: usize,
+    /// How many members a group has.
+    pub(crate) width: usize,
     ghost some: { 0 < width },
     ghost fits: { width ≤ 144115188075855872 },
 }
@@ -269,13 +269,6 @@ impl Candidates {
         groups
             .narrowed(&self.fifth, byte_at(searched, position + 4))
             .narrowed(&self.sixth, byte_at(searched, position + 5))
-    }
-
-    /// Whether each member has a group of its own.
-    pub(crate) fn are_apart(&self) -> bool
-        ensures { result ≡ true → self.now.width ≡ 1 }
-    {
-        self.width == 1
     }
 
     /// The first member in one of the groups with an index from the one on and below `count`.

@@ -200,7 +200,8 @@ impl RegexSet {
             (length (members_of self.now)))
             (IsNextStarter (members_of self.now) searched.now position from) }
     {
-        if self.candidates.are_apart() {
+        let width = self.candidates.width;
+        if width == 1 {
             return groups.first_from(from);
         }
         self.next_in_groups(groups, searched, position, from)

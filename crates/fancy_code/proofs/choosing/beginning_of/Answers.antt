@@ -1,6 +1,6 @@
 use Rattle.std.proofs.Common.{◌≡◌, ◌<◌, [], length, sym, subst, ◌∙◌, arith}
 use Rattle.fancy_bytes.specs.Sets.{ByteFlags}
-use Rattle.fancy_prefilter.specs.Windows.{set_at}
+use Rattle.fancy_bytes.specs.Rows.{set_at}
 use Rattle.fancy_code.specs.Choices.{BeginsAmong}
 use Rattle.fancy_code.specs.Code.{instrs_of}
 use Rattle.fancy_code.proofs.ChoosingLemmas.{by_first, first_default, some_sets}

@@ -4,8 +4,8 @@ use Rattle.fancy_tree.specs.Sets.{has}
 use Rattle.fancy_bytes.specs.Sets.{ByteFlags}
 use Rattle.fancy_code.specs.Code.{instrs_of, instr_in}
 use Rattle.fancy_bytes.specs.Items.{encoding}
-use Rattle.fancy_prefilter.specs.Rows.{Wider}
-use Rattle.fancy_prefilter.proofs.ItemBytesLemmas.{wider_encoding, wider_on}
+use Rattle.fancy_bytes.specs.Rows.{Wider}
+use Rattle.fancy_bytes.proofs.ItemBytesLemmas.{wider_encoding, wider_on}
 use Rattle.fancy_code.specs.Foretold.{ForetoldPast}
 use Rattle.fancy_code.proofs.InstructionLemmas.{length-instrs_of}
 use Rattle.fancy_code.proofs.ForetoldLemmas.{told_past, told_nowhere, told_character, told_member, told_assert, told_open, told_close, told_split, past_row, past_none, past_items, past_character, past_joined, wider_past, wider_told, wider_cut, cut_length, encoding_short}

@@ -1,7 +1,7 @@
 use Rattle.std.proofs.Common.{◌*◌, ◌+◌}
 use Rattle.fancy_tree.specs.Members.{edges_of}
 use Rattle.fancy_tree.specs.Sets.{has}
-use Rattle.fancy_prefilter.specs.Rows.{Wider}
+use Rattle.fancy_bytes.specs.Rows.{Wider}
 use Rattle.fancy_code.specs.Code.{instrs_of}
 use Rattle.fancy_code.specs.Foretold.{ForetoldPast}
 use Rattle.fancy_code.proofs.prefilter.+collect.Given as goal

@@ -1,6 +1,6 @@
 use Rattle.std.proofs.Common.{◌≡◌, ◌+◌, ◌<◌, ◌≤◌, ℕ, false, length}
 use Rattle.fancy_bytes.specs.Sets.{member}
-use Rattle.fancy_prefilter.specs.Windows.{set_at}
+use Rattle.fancy_bytes.specs.Rows.{set_at}
 use Rattle.fancy_prefilter.proofs.window.skip_of.Given as goal
 
 abbrev pub invariant-loop-passed : goal.invariant-loop-passed

@@ -1,5 +1,5 @@
 use Rattle.std.proofs.Common.{◌≡◌, ◌+◌, ap, arith, length}
-use Rattle.fancy_prefilter.specs.Windows.{StandsFrom}
+use Rattle.fancy_bytes.specs.Rows.{StandsFrom}
 use Rattle.fancy_prefilter.proofs.MarkLemmas.{bit_within, none_before}
 use Rattle.fancy_prefilter.proofs.WindowLemmas.{stands_before, among}
 use Rattle.fancy_prefilter.proofs.window.Window.first_among.Goals as goal

@@ -1,5 +1,5 @@
 use Rattle.std.proofs.Common.{◌+◌, sym, ◌∙◌, arith, true≢false}
-use Rattle.fancy_prefilter.specs.Windows.{StandsFrom}
+use Rattle.fancy_bytes.specs.Rows.{StandsFrom}
 use Rattle.fancy_prefilter.proofs.MarkLemmas.{bit_within, never_so, marks_without, none_before}
 use Rattle.fancy_prefilter.proofs.WindowLemmas.{stands_before}
 use Rattle.fancy_prefilter.proofs.window.Window.first_marked.Goals as goal

@@ -1,4 +1,4 @@
-use Rattle.fancy_prefilter.specs.Windows.{StandsFrom}
+use Rattle.fancy_bytes.specs.Rows.{StandsFrom}
 use Rattle.fancy_prefilter.specs.HalfTables.{AreMarks}
 use Rattle.fancy_prefilter.proofs.window.Window.first_marked.Given as goal
 

@@ -1,5 +1,5 @@
 use Rattle.std.proofs.Common.{◌+◌, arith}
-use Rattle.fancy_prefilter.specs.Windows.{StandsFrom}
+use Rattle.fancy_bytes.specs.Rows.{StandsFrom}
 use Rattle.fancy_prefilter.proofs.MarkLemmas.{never_so}
 use Rattle.fancy_prefilter.proofs.WindowLemmas.{none_further}
 use Rattle.fancy_prefilter.proofs.window.Window.next_marked.Goals as goal

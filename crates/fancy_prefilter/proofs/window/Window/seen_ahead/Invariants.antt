@@ -1,5 +1,6 @@
 use Rattle.std.proofs.Common.{◌+◌, ◌-◌, ◌<◌, ◌≤◌, length}
-use Rattle.fancy_prefilter.specs.Windows.{StandsFrom, NoneStandsIn}
+use Rattle.fancy_bytes.specs.Rows.{StandsFrom}
+use Rattle.fancy_prefilter.specs.Windows.{NoneStandsIn}
 use Rattle.fancy_prefilter.specs.HalfTables.{AreMarks}
 use Rattle.fancy_prefilter.proofs.window.Window.seen_ahead.Given as goal
 
