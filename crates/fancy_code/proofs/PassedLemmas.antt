@@ -3,7 +3,7 @@ use Rattle.std.proofs.Common.{◌≡◌, ℕ, ◌+◌, ◌-◌, ◌<◌, ◌≤�
 use Rattle.std.specs.Prelude.{IfSome}
 use Rattle.fancy_bytes.specs.Openings.{opening, StandsBefore}
 use Rattle.fancy_tree.specs.declared.tree.Assertion.TheVariants.{TextStart, LineStart}
-use Rattle.fancy_prefilter.specs.NextOpening.{LacksOpening, StartsNot, by_byte, by_anchor, by_opening, by_text, IsOffAnchor}
+use Rattle.fancy_prefilter.specs.NextOpening.{LacksOpening, StartsNot, by_byte, by_anchor, by_opening, by_reach, IsOffAnchor}
 use Rattle.fancy_prefilter.specs.Prefilters.{text_in, window_in, branches_in}
 use Rattle.fancy_prefilter.specs.declared.prefilter.Anchor.{Anchor}
 use Rattle.fancy_prefilter.specs.declared.prefilter.Anchor.TheVariants.{Anywhere, AtStart, AtLines}
@@ -47,7 +47,7 @@ module _ (q : Query) (code : Code) (is : IsCodeOf q.sought.pattern code) (meant 
   starts_not : (p : ℕ) → p ≤ q.request.range_end → StartsNot code.prefilter q.haystack q.request.range_end p → answer_at q p ≡ None
   starts_not p le (by_byte never) = none_starts q code.prefilter.starts (rw meant is.starts) bytes p never
   starts_not p le (by_anchor off) = none_off code.prefilter.anchor is.anchored p le off
-  starts_not p le (by_text lacks) = none_required q inside bytes p le code.prefilter.region (rw meant is.required) lacks
+  starts_not p le (by_reach lacks) = none_required q inside bytes p le code.prefilter.region (rw meant is.required) lacks
   starts_not p le (by_opening lacks) = none_opens code.prefilter.opening is.opens is.foretold is.branched p le lacks
 
   -- positions where no match starts may be passed over

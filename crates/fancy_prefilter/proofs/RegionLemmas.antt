@@ -9,7 +9,7 @@ use Rattle.fancy_required.specs.declared.reach.Reach.{Reach}
 use Rattle.fancy_required.specs.declared.reach.Target.{Target}
 use Rattle.fancy_required.specs.declared.reach.Target.TheVariants.{Text, TextEnd}
 use Rattle.fancy_prefilter.specs.Regions.{EndsRegion, LacksTarget, before, nowhere}
-use Rattle.fancy_prefilter.specs.NextOpening.{LacksReach, StartsNot, by_text}
+use Rattle.fancy_prefilter.specs.NextOpening.{LacksReach, StartsNot, by_reach}
 use Rattle.fancy_prefilter.specs.declared.prefilter.Prefilter.{Prefilter}
 use Rattle.fancy_prefilter.proofs.StandsLemmas.{none_stands}
 
@@ -48,7 +48,7 @@ lacks_before r haystack from k edge end le within lt is =
 
 -- where it does not stand, no match starts
 pub starts_not : (f : Prefilter) (r : Reach) (haystack : List ℕ) (end p : ℕ) → f.region ≡ Some r → LacksTarget r haystack end p → StartsNot f haystack end p
-starts_not f r haystack end p is lacks = by_text (subst (λ (o : Option Reach). LacksReach o haystack end p) (sym is) lacks)
+starts_not f r haystack end p is lacks = by_reach (subst (λ (o : Option Reach). LacksReach o haystack end p) (sym is) lacks)
 
 pub lacks_from : (r : Reach) (haystack : List ℕ) (from k end : ℕ) → from ≤ k → ¬ StandsAhead r.target haystack from end → LacksTarget r haystack end k
 lacks_from r haystack from k end le none = nowhere (none_later r.target haystack from k end le none)

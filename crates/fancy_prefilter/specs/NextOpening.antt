@@ -36,18 +36,18 @@ IsOffAnchor Anywhere haystack p = ⊥
 IsOffAnchor AtStart haystack p = 0 < p
 IsOffAnchor (AtLines set) haystack p = FollowsNone set haystack p
 
--- the text that each match has in it does not stand where a match from p on might have it
+-- what each match goes on to does not stand where a match from p on might come to it
 abbrev pub LacksReach : Option Reach → List ℕ → ℕ → ℕ → Type 0
 LacksReach None haystack range_end p = ⊥
 LacksReach (Some r) haystack range_end p = LacksTarget r haystack range_end p
 
 -- no match starts at p: by its first byte, since it would start past the text's start or within a line, by what it opens with, or by what
--- it has in it
+-- it goes on to
 pub data StartsNot (f : Prefilter) (haystack : List ℕ) (range_end p : ℕ) : Type 0 where
   by_byte : MayNotStart f.starts haystack range_end p → StartsNot f haystack range_end p
   by_anchor : IsOffAnchor f.anchor haystack p → StartsNot f haystack range_end p
   by_opening : LacksOpening f.opening haystack range_end p → StartsNot f haystack range_end p
-  by_text : LacksReach f.region haystack range_end p → StartsNot f haystack range_end p
+  by_reach : LacksReach f.region haystack range_end p → StartsNot f haystack range_end p
 
 -- p is a place, from the one on and up to the other, at which a search may go on, since no match starts before it; or it is past both. Where no match starts by its first byte, it is past both.
 pub record IsNextOpening (f : Prefilter) (haystack : List ℕ) (range_end from last p : ℕ) : Type 0 where

@@ -281,7 +281,7 @@ fn next_by_opening(
 }
 
 /// What [`next_opening`] answers past the region that is known, where the last position is the range's end: one that a match may open
-/// with, up to the next text from there on.
+/// with, up to the next target from there on.
 fn next_by_regions(
     prefilter: &Prefilter,
     reach: &Reach,
@@ -297,12 +297,12 @@ fn next_by_regions(
 {
     let mut place = from;
     while place <= range_end {
-        let Some((start, text)) = next_region(reach, haystack, place, range_end) else {
+        let Some((start, target)) = next_region(reach, haystack, place, range_end) else {
             return range_end + 1;
         };
         let opening = next_by_opening(prefilter, haystack, range_end, start, range_end);
-        if opening <= text {
-            *region = Some(text);
+        if opening <= target {
+            *region = Some(target);
             return opening;
         }
         place = opening;
@@ -310,7 +310,7 @@ fn next_by_regions(
     range_end + 1
 }
 
-/// What [`next_opening`] answers by the text that each match has in it.
+/// What [`next_opening`] answers by what each match goes on to.
 #[inline(never)]
 fn next_in_region(
     prefilter: &Prefilter,
@@ -331,10 +331,10 @@ fn next_in_region(
     if last < range_end || !is_worth_looking(reach, range_end.saturating_sub(from)) {
         return next_by_opening(prefilter, haystack, range_end, from, last);
     }
-    if let Some(text) = *region {
-        if from <= text {
+    if let Some(target) = *region {
+        if from <= target {
             let opening = next_by_opening(prefilter, haystack, range_end, from, last);
-            if opening <= text {
+            if opening <= target {
                 return opening;
             }
             return next_by_regions(prefilter, reach, haystack, last, opening, region);
@@ -346,8 +346,8 @@ fn next_in_region(
 /// The first position, from the one on and up to the last, at which a search goes on, past the last where there is none: no
 /// match begins before it.
 ///
-/// `region` keeps where the text stands up to which a match may begin that has it, from one call to the next in a search: so no byte is
-/// looked at again for that text. It is `None` for the first call.
+/// `region` keeps the place of the target up to which a match may begin that goes on to it, a byte offset, from one call to the next in a
+/// search: so no byte is looked at again for that target. It is `None` for the first call.
 #[inline]
 pub fn next_opening(
     prefilter: &Prefilter,

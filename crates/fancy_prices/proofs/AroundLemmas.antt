@@ -8,7 +8,7 @@ use Rattle.fancy_prefilter.specs.declared.prefilter.Opening.{Opening}
 use Rattle.fancy_prefilter.specs.declared.prefilter.Opening.TheVariants.{Untold, Text, Window, Sets, Words}
 use Rattle.fancy_prefilter.specs.declared.prefilter.Prefilter.{Prefilter}
 use Rattle.fancy_prefilter.specs.Prefilters.{window_in}
-use Rattle.fancy_prefilter.specs.NextOpening.{LacksReach, IsOffAnchor, LacksOpening, StartsNot, by_byte, by_anchor, by_opening, by_text}
+use Rattle.fancy_prefilter.specs.NextOpening.{LacksReach, IsOffAnchor, LacksOpening, StartsNot, by_byte, by_anchor, by_opening, by_reach}
 use Rattle.fancy_required.specs.declared.reach.Reach.{Reach}
 use Rattle.fancy_prefilter.specs.Seen.{MayNotStart}
 use Rattle.fancy_bytes.specs.Rows.{set_at, StandsFrom}
@@ -51,7 +51,7 @@ module _ (t : Told) (h : List ℕ) (small : (k : ℕ) → slice_index h k < 256)
   lacks : (p : ℕ) → StartsNot filter h to p → ¬ StandsFrom sets h to 0 p
   lacks p (by_byte not) = absurd (subst (λ (o : Option ByteFlags). MayNotStart o h to p) round.0.0 not)
   lacks p (by_anchor not) = absurd (subst (λ (a : Anchor). IsOffAnchor a h p) round.0.1 not)
-  lacks p (by_text not) = absurd (subst (λ (o : Option Reach). LacksReach o h to p) round.0.2 not)
+  lacks p (by_reach not) = absurd (subst (λ (o : Option Reach). LacksReach o h to p) round.0.2 not)
   lacks p (by_opening not) = lacks_opening p filter.opening round.1.0 not
 
   module _ (end p : ℕ) (lt : suc (suc p) < to) (within : suc (suc p) < end) (none : ¬ StandsFrom sets h to 0 p) where

@@ -1,5 +1,5 @@
 -- Patterns whose matches end at the end of the text.
-use Rattle.std.specs.Prelude.{Bool, true, false, List, [], ◌∷◌}
+use Rattle.std.specs.Prelude.{Bool, true, false}
 use Rattle.fancy_tree.specs.declared.tree.Assertion.{Assertion}
 use Rattle.fancy_tree.specs.declared.tree.Assertion.TheVariants.{TextStart, TextEnd, LineStart, LineEnd, LineStartCrlf, LineEndCrlf, LastLine, LastLineCrlf, WordBoundary, NotWordBoundary, WordStart, WordEnd, WordStartHalf, WordEndHalf}
 use Rattle.fancy_tree.specs.Pattern.{Pattern, empty, character, member_of, in_any_case, raw_byte, backreference, assertion, group_test, keep_start, continue_here, group, repeat, look_ahead, look_behind, atomic, conditional, followed, or_else, last_branch}
@@ -42,9 +42,3 @@ ends_text (conditional condition first second) = false
 ends_text (followed part rest) = ends_text rest
 ends_text (or_else branch others) = false
 ends_text (last_branch branch) = false
-
--- the last of these patterns does
-abbrev pub ends_text_in_row : List Pattern → Bool
-ends_text_in_row [] = false
-ends_text_in_row (p ∷ []) = ends_text p
-ends_text_in_row (p ∷ q ∷ ps) = ends_text_in_row (q ∷ ps)

@@ -1,9 +1,9 @@
 //! What every match goes on to: a text that it has in it, or the end of the text.
 
 ghost use Rattle.std.specs.Prelude.{◌≡◌, ◌<◌, false, map, IfOk, IfSome};
-ghost use Rattle.fancy_tree.specs.Pattern.{pattern_of};
+ghost use Rattle.fancy_tree.specs.Pattern.{in_sequence, pattern_of};
 ghost use Rattle.fancy_bytes.specs.Sets.{member};
-ghost use Rattle.fancy_required.specs.Ends.{ends_text, ends_text_in_row, is_text_end};
+ghost use Rattle.fancy_required.specs.Ends.{ends_text, is_text_end};
 
 use crate::text::{required_text, stands_seldom};
 use fancy_bytes::byte_set::ByteSet;
@@ -50,7 +50,7 @@ fn ends_text(tree: &Tree) -> bool
 /// The same of patterns one after another.
 #[cycle(ends)]
 fn ends_text_in_row(trees: &[Tree]) -> bool
-    ensures { result ≡ ends_text_in_row (map pattern_of trees.now) }
+    ensures { result ≡ ends_text (in_sequence (map pattern_of trees.now)) }
 {
     if trees.is_empty() {
         return false;
@@ -70,6 +70,7 @@ pub enum Target {
 /// What every match goes on to, and the bytes that it may have.
 #[derive(Drop)]
 pub struct Reach {
+    /// What it goes on to.
     pub target: Target,
     /// The bytes with which items of the pattern begin.
     reads: ByteSet,
@@ -86,9 +87,12 @@ impl Target {
         if ends_text(tree) {
             return Ok(Some(Target::TextEnd));
         }
-        let text = required_text(alloc, tree, meaning)?;
         let opening = opening_text(alloc, tree, meaning)?;
-        if opening.len() >= 2 || text.len() <= opening.len() || !stands_seldom(&text) {
+        if opening.len() >= 2 {
+            return Ok(None);
+        }
+        let text = required_text(alloc, tree, meaning)?;
+        if text.len() <= opening.len() || !stands_seldom(&text) {
             return Ok(None);
         }
         Ok(Some(Target::Text(text)))

@@ -4,8 +4,8 @@ use Rattle.fancy_prefilter.proofs.NextLemmas.{next_on}
 use Rattle.fancy_prefilter.proofs.RegionLemmas.{lacks_before, lacks_from, starts_not}
 use Rattle.fancy_prefilter.proofs.candidates.next_by_regions.Goals as goal
 
-pub returns-then-opening-text : goal.returns-then-opening-text
-returns-then-opening-text c =
+pub returns-then-opening-target : goal.returns-then-opening-target
+returns-then-opening-target c =
     let f = c.args.prefilter.now in
     let haystack = c.args.haystack.now in
     next_on f haystack c.args.range_end c.args.from c.args.range_end c.in-Some.start c.next_by_opening-opening.result

@@ -4,13 +4,12 @@ use Rattle.fancy_tree.specs.declared.tree.Tree.{Tree}
 use Rattle.fancy_tree.specs.Pattern.{pattern_of, in_sequence}
 use Rattle.fancy_tree.proofs.PatternLemmas.{pattern-Concat, pattern-Alternation}
 use Rattle.fancy_required.specs.Ends.{ends_text}
-use Rattle.fancy_required.proofs.EndsLemmas.{ends-in_sequence, ends-in_choice, last_part}
+use Rattle.fancy_required.proofs.EndsLemmas.{ends-in_choice, last_part}
 use Rattle.fancy_required.proofs.reach.+ends.Goals as goal
 
 pub ends_text-returns-in-Concat : goal.ends_text-returns-in-Concat
 ends_text-returns-in-Concat t c =
     c.ends_text_in_row.ensures
-    ∙ ends-in_sequence (map pattern_of c.deref-in-Concat.result.now)
     ∙ ap (λ (ts : List Tree). ends_text (in_sequence (map pattern_of ts))) c.deref-in-Concat.ensures.value
     ∙ ap ends_text (sym (ap pattern_of c.in-Concat.is ∙ pattern-Concat c.in-Concat.parts))
 
