@@ -167,29 +167,6 @@ pub fn find_hard(
     found
 }
 
-/// The match that an attempt at one position finds, as [`find_in_list`], for a regex that is one item, as far as this is told. `None` for
-/// others, and for one that is not easy. It goes on with no notes and counts nothing, so no limit is met.
-///
-/// ```text
-/// let (item, word) = (Regex::new(alloc, "[a-z]")?, Regex::new(alloc, "[a-z]+")?);
-/// find_one_item(&item, &asked, 0, &mut cache.engines)    // of "ab": Some, and in it the match 0..1
-/// find_one_item(&item, &asked, 0, &mut cache.engines)    // of "12": Some(None)
-/// find_one_item(&word, &asked, 0, &mut cache.engines)    // None
-/// ```
-pub fn find_one_item(
-    regex: &Regex,
-    asked: &Asked<'_>,
-    position: usize,
-    cache: &mut Cache,
-) -> Option<Option<Found>>
-    requires ends { position ≤ asked.now.request.now.range_end }
-    ensures easy { IfSome result (λ _. easy_in regex.now ≡ true) }
-    ensures found { IfSome result (λ m.
-        IsAttemptIn m cache.new (query_in (program_in regex.now) asked.now) position) }
-{
-    regex.program.read_one_item(asked, position, cache)
-}
-
 /// The match that an attempt at one position finds, as [`find_at`], for a regex that is easy and has neither a choice nor a group, where
 /// it does not come near a limit of work. `None` elsewhere, and then nothing was done. It goes on with no notes, and leaves none.
 ///
@@ -199,6 +176,7 @@ pub fn find_one_item(
 /// find_straight(&text, &asked, 1, &mut cache)    // Some(None)
 /// find_straight(&word, &asked, 0, &mut cache)    // None
 /// ```
+#[inline(always)]
 pub fn find_straight(
     regex: &Regex,
     asked: &Asked<'_>,
@@ -220,13 +198,8 @@ pub fn find_straight(
     ensures found { IfSome result (λ m.
         IsAttemptIn m cache.new.engines (query_in (program_in regex.now) asked.now) position) }
 {
-    let mut counts = Work::after(&cache.work);
-    let engines = &mut cache.engines;
-    let found = regex
-        .program
-        .read_straight(asked, position, engines, &mut counts)?;
-    cache.work.add_attempt(&counts);
-    Some(found)
+    let (engines, work) = (&mut cache.engines, &mut cache.work);
+    regex.program.read_straight(asked, position, engines, work)
 }
 
 /// The match that an attempt at one position finds, as [`find_in_list`], where what attempts before found out tells it: no step is

@@ -5,9 +5,8 @@ use Rattle.std.proofs.Props.{props}
 use Rattle.std.specs.List.{filter}
 use Rattle.std.proofs.lemmas.List.{length-replicate}
 use Rattle.std.proofs.lemmas.Option.{get_or_from_slice_get, same_Some}
-use Rattle.fancy_code.specs.declared.code.Code.{Code}
 use Rattle.fancy_code.specs.Code.{instrs_of}
-use Rattle.fancy_code.specs.Compile.{IsCodeOf, depth}
+use Rattle.fancy_code.specs.Compile.{depth}
 use Rattle.std.proofs.lemmas.Bool.Decides.{nat_tests}
 use Rattle.std.specs.Char.{len_utf8}
 use Rattle.fancy_tree.specs.declared.tree.Meaning.{Meaning}
@@ -26,31 +25,13 @@ use Rattle.fancy_code.specs.Run.{Raw, Note, Stop, choice_opened, returned, fetch
 use Rattle.fancy_meaning.specs.Search.{Query, Answer, answer_at, attempt, accepted, first_one, context_of, initial, trace_at}
 use Rattle.fancy_meaning.specs.Trace.{outcomes}
 use Rattle.fancy_code.proofs.WholeCode.{program_gives}
-use Rattle.fancy_search.specs.declared.asked.Asked.{Asked}
 use Rattle.fancy_search.specs.declared.program.Program.{Program}
-use Rattle.fancy_search.specs.OneItem.{AreOneItems, EachReadsOne, IsOneItem, ReadsOne, answer_to}
+use Rattle.fancy_search.specs.OneItem.{AreOneItems, EachReadsOne, IsOneItem}
 use Rattle.fancy_search.specs.Starts.{EndsByOne}
-use Rattle.fancy_search.specs.Programs.{program_is_easy, asked_of, query_in}
+use Rattle.fancy_search.specs.Programs.{program_is_easy, asked_of}
 use Rattle.fancy_search.proofs.ProgramSizeLemmas.{parts_of_easy}
 use Rattle.fancy_search.specs.Straight.{past_part}
-use Rattle.fancy_search.proofs.SearchedLemmas.{known}
-use Rattle.fancy_search.proofs.StraightLemmas.{attempt_is, run_one}
-
-one_item_found : (q : Query) (code : Code) → IsCodeOf q.sought.pattern code → q.sought.meaning ≡ code.meaning → q.request.range_end ≤ length q.haystack
-    → (p : ℕ) (past : Option ℕ) → ReadsOne (context_of q) (instr_at (instrs_of code) code.start) p past → p ≤ q.request.range_end → attempt q p ≡ answer_to q p past
-one_item_found q code is meant inside p past one within =
-    let v = replicate code.groups 0 in
-    let g = program_gives (context_of q) q.request.range_end q.sought.pattern code is meant inside (initial q p) v within (length-replicate code.groups 0) in
-    attempt_is q p past
-    (sym g.2 ∙ run_one (context_of q) q.request.range_end (instrs_of code) (get_or_from_slice_get (instrs_of code) 0 Match Fail is.matching) (initial q p) v code.start past within one (depth (length q.haystack) q.sought.pattern + 1) g.0 g.1)
-
--- what an attempt with a program of one item answers
-pub one_item_at : (r : Program) (asked : Asked) (p : ℕ) (past : Option ℕ) → p ≤ asked.request.now.range_end
-    → ((x : Context) → x.meaning ≡ r.code.meaning → x.haystack ≡ asked.haystack.now → ReadsOne x (instr_at (instrs_of r.code) r.code.start) p past)
-    → attempt (query_in r asked) p ≡ answer_to (query_in r asked) p past
-one_item_at r asked p past within read =
-    known _ _ r.compiled
-    (λ compiled. one_item_found (query_in r asked) r.code compiled.coded (sym r.meant) asked.inside p past (read (context_of (query_in r asked)) (sym r.meant) refl) within)
+use Rattle.fancy_search.proofs.StraightLemmas.{run_one}
 
 -- where an ASCII byte stands, what was read ends past it
 same_width : (u w : Unit_at) → Some u ≡ Some w → u.width ≡ w.width
@@ -139,7 +120,7 @@ module _ (x : Context) (limit : ℕ) (code : List Instruction) (matching : instr
   one_near : (at n : ℕ) → IsOneItem (instr_at code at) → (w : List Raw) → run x limit code n at s v ≡ Some w → EachOutcome IsNear (erase w)
   one_near at n one w e =
       let past = past_part x (instr_at code at) s.place in
-      subst (EachOutcome IsNear) (sym (run_one x limit code matching s v at past within (one, refl) n w e)) (moved IsNear limit s past (λ end is. near_read x (instr_at code at) s.place end inside low is))
+      subst (EachOutcome IsNear) (sym (run_one x limit code matching s v at within one n w e)) (moved IsNear limit s past (λ end is. near_read x (instr_at code at) s.place end inside low is))
 
   are_near : (k at n : ℕ) → EachReadsOne code k at → (w : List Raw) → run x limit code n at s v ≡ Some w → EachOutcome IsNear (erase w)
   are_near zero at n one w e = one_near at n one w e

@@ -36,7 +36,7 @@ use Rattle.fancy_search.specs.SearchCounts.{AllowsAllSteps, HasRoomFor, step_bou
 use Rattle.fancy_search.specs.Served.{KeepsCounts}
 use Rattle.fancy_meaning.specs.Search.{Query, Answer, accepted, answer_at, answer_from, attempt, context_of, first_one, initial, longest_one, trace_at}
 use Rattle.fancy_prefilter.specs.NextOpening.{StartsNot}
-use Rattle.fancy_search.specs.OneItem.{IsOneItem, ReadsOne, answer_to}
+use Rattle.fancy_search.specs.OneItem.{IsOneItem, answer_to}
 use Rattle.fancy_search.specs.Straight.{IsRead, after_part, is_straight, past_all, past_part}
 use Rattle.fancy_search.specs.declared.program.Program.{Program}
 use Rattle.fancy_search.specs.Programs.{asked_of, program_options, program_step_limit}
@@ -209,12 +209,13 @@ module _ (x : Context) (limit : ℕ) (code : List Instruction) (matching : instr
   alone i None one = rw one refl
   alone i (Some p) one = rw one refl
 
-  pub run_one : (at : ℕ) (past : Option ℕ) → s.place ≤ limit → ReadsOne x (instr_at code at) s.place past → (m : ℕ) (w : List Raw) → run x limit code m at s v ≡ Some w → erase w ≡ move limit s past
-  run_one at past le one zero w e = cc
-  run_one at past le one (suc m) w e =
+  pub run_one : (at : ℕ) → s.place ≤ limit → IsOneItem (instr_at code at) → (m : ℕ) (w : List Raw)
+      → run x limit code m at s v ≡ Some w → erase w ≡ move limit s (past_part x (instr_at code at) s.place)
+  run_one at le one zero w e = cc
+  run_one at le one (suc m) w e =
       let i = instr_at code at in
-      after_fetch _ w (move limit s past) (λ u is. past_instr 0 m at s.place (run x (length x.haystack) code m) i le (run_along 0 m) (rw one.0 refl) u is
-      ∙ ap (move limit s) (alone i (past_part x i s.place) one.0 ∙ sym one.1)) e
+      after_fetch _ w (move limit s (past_part x i s.place)) (λ u is. past_instr 0 m at s.place (run x (length x.haystack) code m) i le (run_along 0 m) (rw one refl) u is
+      ∙ ap (move limit s) (alone i (past_part x i s.place) one)) e
 
 there : ℕ → State → Answer
 there p s = record { position = p; state = s }

@@ -1,18 +1,14 @@
 -- Code of one item.
 use Rattle.std.specs.Prelude.{◌≡◌, ◌&&◌, ℕ, zero, suc, List, Option, Some, None, nat_le, if◌then◌else◌}
-use Rattle.fancy_meaning.specs.Context.{Context, moved_to}
+use Rattle.fancy_meaning.specs.Context.{moved_to}
 use Rattle.fancy_code.specs.Instructions.{Instruction, Split}
 use Rattle.fancy_code.specs.Run.{instr_at}
 use Rattle.fancy_meaning.specs.Search.{Query, Answer, accepted, initial}
-use Rattle.fancy_search.specs.Straight.{after_part, past_part}
+use Rattle.fancy_search.specs.Straight.{after_part}
 
 -- it reads one item, or tests the place, after which there is an outcome
 abbrev pub IsOneItem : Instruction → Type 0
 IsOneItem i = after_part i ≡ Some 0
-
--- The instruction does so at p: the outcome is at this place, or nowhere if the item does not stand there, or the test does not hold.
-abbrev pub ReadsOne : Context → Instruction → ℕ → Option ℕ → Type 0
-ReadsOne x i p past = IsOneItem i × (past ≡ past_part x i p)
 
 -- the answer of an attempt at p whose one outcome is at this place, if there is one
 abbrev pub answer_to : Query → ℕ → Option ℕ → Option Answer

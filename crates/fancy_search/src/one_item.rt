@@ -1,37 +1,12 @@
 //! Code of one item, or of one test of the place.
 
-ghost use Rattle.std.specs.Prelude.{◌≡◌, IfSome, true};
+ghost use Rattle.std.specs.Prelude.{◌≡◌, true};
 ghost use Rattle.fancy_code.specs.Code.{instrs_of};
-ghost use Rattle.fancy_meaning.specs.Context.{Context};
 ghost use Rattle.fancy_code.specs.Run.{instr_at};
-ghost use Rattle.fancy_search.specs.OneItem.{AreOneItems, IsOneItem, ReadsOne};
+ghost use Rattle.fancy_search.specs.OneItem.{AreOneItems, IsOneItem};
 
 use crate::straight::after_part;
-use fancy_code::code::{Code, Instr, MATCH};
-use fancy_code::step::{past_character, past_member, past_raw_byte};
-
-/// For code that reads one item, after which a match is found: the place after the item at `place`, if it stands there. `None` for
-/// other code.
-#[inline]
-pub(crate) fn past_one_item(code: &Code, haystack: &[u8], place: usize) -> Option<Option<usize>>
-    ensures { IfSome result (λ past. (x : Context) → x.meaning ≡ code.now.meaning
-        → x.haystack ≡ haystack.now
-        → ReadsOne x (instr_at (instrs_of code.now) code.now.start) place past) }
-{
-    if code.start >= code.len() {
-        return None;
-    }
-    match code.instr(code.start) {
-        Instr::Character(character, next) if *next == MATCH => {
-            Some(past_character(haystack, code.meaning, *character, place))
-        }
-        Instr::Member(set, next) if *next == MATCH => {
-            Some(past_member(haystack, code.meaning, code.set(*set), place))
-        }
-        Instr::RawByte(byte, next) if *next == MATCH => Some(past_raw_byte(haystack, *byte, place)),
-        _ => None,
-    }
-}
+use fancy_code::code::{Code, MATCH};
 
 /// How many choices are followed.
 const MOST: usize = 16;

@@ -38,7 +38,7 @@ ghost use Rattle.fancy_search.specs.Straight.{is_straight};
 use crate::asked::Asked;
 use crate::cache::{AttemptCache, AttemptNotes, Cache, Engine, Kept, RememberedSteps};
 use crate::following::{Lengths, is_worth_following, leaps, shortest_followed};
-use crate::one_item::{is_one_item, past_one_item};
+use crate::one_item::is_one_item;
 use crate::options::Options;
 use crate::straight::{is_straight, past_straight};
 use fancy_automaton::search as automaton;
@@ -937,28 +937,6 @@ impl Program {
         found
     }
 
-    /// The match that an attempt at one position finds, as [`Program::attempt_at`], for a pattern that is one item, as far as its code
-    /// tells. `None` for other patterns, and for hard ones. The item is read there by no engine, so nothing is counted, and no limit
-    /// is met.
-    pub fn read_one_item(
-        &self,
-        asked: &Asked<'_>,
-        position: usize,
-        cache: &mut Cache,
-    ) -> Option<Option<Found>>
-        requires ends { position ≤ asked.now.request.now.range_end }
-        ensures easy { IfSome result (λ _. program_is_easy self.now ≡ true) }
-        ensures answer { IfSome result
-            (λ m. IsAttemptIn m cache.new (query_in self.now asked.now) position) }
-    {
-        if !self.is_one_item() {
-            return None;
-        }
-        let past = past_one_item(&self.code, asked.haystack, position)?;
-        cache.served = Engine::WithoutGroups(self.code.groups);
-        Some(self.match_to(asked.haystack, asked.request.range_end, position, past))
-    }
-
     /// The match that an attempt at one position finds, as [`Program::attempt_at`], for an easy pattern whose code is straight: its items
     /// are read there, without an engine and without notes. `None` for other patterns, and where the limit of steps might be met: then
     /// nothing was done.
@@ -977,6 +955,7 @@ impl Program {
         ensures counts { AddsSteps (program_length self.now) work.old work.new }
         ensures within { HeedsStepLimit self.now work.old work.new }
         ensures none { IfNone result (cache.new ≡ cache.old) }
+        ensures untried { IfNone result (work.new ≡ work.old) }
     {
         if !self.easy || !self.straight {
             return None;

@@ -21,7 +21,7 @@ ghost use Rattle.fancy_search.specs.SearchCounts.{IsOutOfSteps};
 
 use fancy_code::found::Found;
 use fancy_core::attempt::{
-    captures_found, find_at, find_hard, find_in_list, find_one_item, find_straight, find_told,
+    captures_found, find_at, find_hard, find_in_list, find_straight, find_told,
 };
 use fancy_core::captures::Captures;
 use fancy_core::regex::Regex;
@@ -208,7 +208,8 @@ impl Trials {
         found
     }
 
-    /// The match that the attempt of the member with this index finds at a position, as [`find_in_list`]. One item is read.
+    /// The match that the attempt of the member with this index finds at a position, as [`find_in_list`]. Items of a straight member
+    /// are read.
     pub(crate) fn find(
         &mut self,
         index: usize,
@@ -240,8 +241,8 @@ impl Trials {
         if !member.is_easy() {
             return find_hard(member, asked, position, &mut self.cache);
         }
-        let one = find_one_item(member, asked, position, &mut self.cache.engines);
-        if let Some(found) = one {
+        let straight = find_straight(member, asked, position, &mut self.cache);
+        if let Some(found) = straight {
             return Ok(found);
         }
         let engines = &mut self.cache.engines;

@@ -1,4 +1,4 @@
-use Rattle.std.proofs.Common.{◌≤◌, ◌∙◌, Some, sym, ap, subst, arith, true≢false}
+use Rattle.std.proofs.Common.{◌∙◌, Some, sym, ap, subst, arith, true≢false}
 use Rattle.std.specs.Box.{with_value}
 use Rattle.fancy_input.specs.Work.{IsWithin, work_of}
 use Rattle.fancy_core.specs.Regexes.{program_in, step_limit_in}
@@ -15,7 +15,7 @@ use Rattle.fancy_regex.proofs.set.trials.Trials.find.Goals as goal
 pub returns-in-Some-clause-notes : goal.returns-in-Some-clause-notes
 returns-in-Some-clause-notes c notes at =
     noted_past (program_in c.args.member.now) c.args.asked.now c.args.position notes c.in-Some.found
-    (attempt_stands (program_in c.args.member.now) c.args.asked.now (cached_groups c.find_one_item-one.new.cache) c.args.position c.requires.ends c.in-Some.found c.in-Some.ensures.found)
+    (attempt_stands (program_in c.args.member.now) c.args.asked.now (cached_groups c.find_straight-straight.new.cache.engines) c.args.position c.requires.ends c.in-Some.found c.in-Some.ensures.found)
     (c.requires.notes notes at)
 
 pub returns-in-Some-clause-allowed : goal.returns-in-Some-clause-allowed
@@ -36,16 +36,21 @@ pub returns-clause-others : goal.returns-clause-others
 returns-clause-others c = stay_but c.args.index c.args.self.now c.take_notes.new.self (Some (with_value c.in_ok-notes.notes c.find_in_list-found.new.notes)) c.take_notes.ensures.others
 
 pub returns-clause-limit : goal.returns-clause-limit
-returns-clause-limit c within = c.find_in_list-found.ensures.limit (subst (λ (k : AttemptCache). IsWithin (step_limit_in c.args.member.now) k.work) (sym c.take_notes.ensures.cache) within)
+returns-clause-limit c within =
+    c.find_in_list-found.ensures.limit (subst (λ (k : AttemptCache). IsWithin (step_limit_in c.args.member.now) k.work) (sym c.take_notes.ensures.cache)
+    (subst (λ (k : AttemptCache). IsWithin (step_limit_in c.args.member.now) k.work) (sym c.in_default.ensures.none) within))
 
 pub returns-in_err-notes-clause-limit : goal.returns-in_err-notes-clause-limit
-returns-in_err-notes-clause-limit c within = subst (λ (k : AttemptCache). IsWithin (step_limit_in c.args.member.now) k.work) (sym c.take_notes.ensures.cache) within
+returns-in_err-notes-clause-limit c within =
+    subst (λ (k : AttemptCache). IsWithin (step_limit_in c.args.member.now) k.work) (sym c.take_notes.ensures.cache)
+    (subst (λ (k : AttemptCache). IsWithin (step_limit_in c.args.member.now) k.work) (sym c.in_default.ensures.none) within)
 
 pub returns-clause-grows : goal.returns-clause-grows
-returns-clause-grows c = subst (λ (k : AttemptCache). work_of k.work ≤ work_of c.find_in_list-found.new.cache.work) c.take_notes.ensures.cache c.find_in_list-found.ensures.grows
+returns-clause-grows c =
+    omega (arith, ap (λ k. work_of k.work) c.take_notes.ensures.cache, ap (λ (k : AttemptCache). work_of k.work) c.in_default.ensures.none, c.find_in_list-found.ensures.grows)
 
 pub returns-in_err-notes-clause-grows : goal.returns-in_err-notes-clause-grows
-returns-in_err-notes-clause-grows c = omega (arith, ap (λ k. work_of k.work) c.take_notes.ensures.cache)
+returns-in_err-notes-clause-grows c = omega (arith, ap (λ k. work_of k.work) c.take_notes.ensures.cache, ap (λ (k : AttemptCache). work_of k.work) c.in_default.ensures.none)
 
 pub returns-in-Some-told-clause-notes : goal.returns-in-Some-told-clause-notes
 returns-in-Some-told-clause-notes c notes at =
