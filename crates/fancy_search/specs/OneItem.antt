@@ -18,6 +18,14 @@ answer_to q p (Some end) =
     then Some (record { position = p; state = moved_to (initial q p) end })
     else None
 
+-- the same where a match is led on from that place to another
+abbrev pub answer_past : Query → ℕ → (ℕ → ℕ) → Option ℕ → Option Answer
+answer_past q p on None = None
+answer_past q p on (Some end) =
+    if nat_le end q.request.range_end && accepted q p (moved_to (initial q p) end)
+    then Some (record { position = p; state = moved_to (initial q p) (on end) })
+    else None
+
 -- n choices follow one after another from q on, and each way of them reads one item, after which there is an outcome
 abbrev pub EachReadsOne : List Instruction → ℕ → ℕ → Type 0
 EachReadsOne code zero q = IsOneItem (instr_at code q)

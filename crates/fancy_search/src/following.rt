@@ -3,6 +3,7 @@
 ghost use Rattle.std.specs.Prelude.{◌≤◌, length};
 
 use crate::one_item::reads_one;
+use crate::straight::is_run;
 use fancy_code::code::{Code, Instr};
 use fancy_prefilter::branches::WIDE;
 use fancy_prefilter::candidates::next_opening;
@@ -97,9 +98,9 @@ fn is_item(code: &Code) -> bool {
 }
 
 /// Whether searches with the code are worth the automaton's steps. Where the first bytes of the alternatives tell them apart, the
-/// runner tries those alone that may match, which takes less. One item is read where it may stand.
+/// runner tries those alone that may match, which takes less. One item, or a run of one, is read where it may stand.
 pub(crate) fn is_worth_following(code: &Code) -> bool {
-    if code.prefilter.has_words() || is_item(code) {
+    if code.prefilter.has_words() || is_item(code) || is_run(code) {
         return false;
     }
     is_told_little(code) || opens_wide(code)

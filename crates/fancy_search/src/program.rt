@@ -1,6 +1,6 @@
 //! A compiled pattern: the code that is searched with, and what decides how.
 
-ghost use Rattle.std.specs.Prelude.{◌≡◌, ◌≤◌, ◌<◌, ◌+◌, ◌-◌, ◌*◌, ◌^◌, ℕ, replicate, Bool, List, None, Some, IfOk, IfErr, IfSome, IfNone, IsUtf8, chars, true, false, length, string_bytes};
+ghost use Rattle.std.specs.Prelude.{◌≡◌, ◌≤◌, ◌<◌, ◌+◌, ◌-◌, ◌*◌, ◌^◌, ℕ, replicate, Bool, List, None, Some, IfOk, IfErr, IfSome, IfNone, IsUtf8, chars, is_some, true, false, length, string_bytes};
 ghost use Rattle.std.specs.Option.{ForSome};
 ghost use Rattle.fancy_tree.specs.Pattern.{Pattern, pattern_of};
 ghost use Rattle.fancy_tree.specs.GroupNames.{names_of};
@@ -11,6 +11,7 @@ ghost use Rattle.fancy_input.specs.Requests.{effective_start};
 ghost use Rattle.fancy_code.specs.Code.{instrs_of};
 ghost use Rattle.fancy_code.specs.CodeLength.{code_len};
 ghost use Rattle.fancy_code.specs.Compile.{are_easy};
+ghost use Rattle.fancy_meaning.specs.Context.{Context};
 ghost use Rattle.fancy_meaning.specs.Easy.{is_easy};
 ghost use Rattle.fancy_meaning.specs.Placed.{has_raw_byte, has_keep_start_in_look_around};
 ghost use Rattle.fancy_runner.specs.Groups.{groups_in};
@@ -33,14 +34,15 @@ ghost use Rattle.fancy_search.specs.Refusals.{error_of};
 ghost use Rattle.fancy_search.specs.ProgramSize.{IsRefusedUnder, RefusesPattern, passes};
 ghost use Rattle.fancy_search.specs.Cached.{IsAttemptIn};
 ghost use Rattle.fancy_search.specs.OneItem.{AreOneItems, answer_to};
-ghost use Rattle.fancy_search.specs.Straight.{is_straight};
+ghost use Rattle.fancy_search.specs.Straight.{past_end, straight_end};
+ghost use Rattle.fancy_search.specs.declared.straight.StraightEnd.TheVariants.{Round};
 
 use crate::asked::Asked;
 use crate::cache::{AttemptCache, AttemptNotes, Cache, Engine, Kept, RememberedSteps};
 use crate::following::{Lengths, is_worth_following, leaps, shortest_followed};
 use crate::one_item::is_one_item;
 use crate::options::Options;
-use crate::straight::{is_straight, past_straight};
+use crate::straight::{StraightEnd, past_straight, past_turns, straight_end};
 use fancy_automaton::search as automaton;
 use fancy_bytes::lacking::{KnownBytes, RequiredBytes};
 use fancy_code::code::Code;
@@ -81,8 +83,8 @@ pub struct Program {
     easy: bool,
     /// Whether each way of the code reads one item, or tests the place, after which a match is found, as far as this is told.
     one_item: bool,
-    /// Whether the code reads items and tests places one after another, and then matches.
-    straight: bool,
+    /// How the code ends, if it reads items and tests places one after another.
+    straight: Option<StraightEnd>,
     /// Whether the automaton follows the code.
     plain: bool,
     /// Whether searches are worth its steps, in texts that are not short.
@@ -101,8 +103,8 @@ pub struct Program {
     ghost decided: { easy ≡ is_easy_under options reading.0 },
     ghost followed: { plain ≡ true → FollowsEach code },
     ghost single: { one_item ≡ true → ∥ AreOneItems (instrs_of code) code.start ∥₁ },
-    ghost direct: { straight ≡ true
-        → is_straight code.start (code_len code - 1) (instrs_of code) ≡ true },
+    ghost direct: { ForSome straight
+        (λ end. straight_end code.start (code_len code - 2) (instrs_of code) ≡ Some end) },
     ghost light: { is_easy reading.0 ≡ true → are_easy (instrs_of code) ≡ true },
     pub ghost limited: { ForSome options.step_limit (λ most. most < 2 ^ 64) },
     ghost starts: { has_keep_start_in_look_around reading.0 ≡ false },
@@ -208,7 +210,7 @@ impl Program {
             return Err(Error::CompileError(CompileError::PatternTooComplex));
         }
         let one_item = is_one_item(&code);
-        let straight = is_straight(&code);
+        let straight = straight_end(&code);
         let plain = is_plain(&code);
         let worth_following = is_worth_following(&code);
         let shortest = shortest_followed(&code);
@@ -364,7 +366,7 @@ impl Program {
         if self.is_followed(asked, &Kept::Nothing) && self.allows_all_steps(*asked.request, work) {
             return self.find_by_steps(asked.haystack, *asked.request, work);
         }
-        if self.straight && self.allows_all_steps(*asked.request, work) {
+        if self.is_read(asked, &Kept::Nothing) && self.allows_all_steps(*asked.request, work) {
             return Ok(self.read(asked.haystack, asked.request, work));
         }
         let mut table = None;
@@ -493,7 +495,7 @@ impl Program {
             cache.served = Engine::WithoutGroups(self.code.groups);
             return self.follow(asked.haystack, *asked.request, kept, &mut cache.steps, work);
         }
-        if self.is_read(kept) && self.allows_all_steps(*asked.request, work) {
+        if self.is_read(asked, kept) && self.allows_all_steps(*asked.request, work) {
             cache.served = Engine::WithoutGroups(self.code.groups);
             *kept = Kept::Runner(None);
             return Ok(self.read(asked.haystack, asked.request, work));
@@ -507,13 +509,20 @@ impl Program {
         Ok(found)
     }
 
-    /// Whether the items of the code are read where a match may begin: it is straight, and no table is kept.
+    /// Whether the items of the code are read where a match may begin: it is straight, no table is kept, and where it ends with a loop,
+    /// each turn goes from boundary to boundary.
     #[inline(always)]
-    fn is_read(&self, kept: &Kept) -> bool
-        ensures straight { result ≡ true → self.now.straight ≡ true }
+    fn is_read(&self, asked: &Asked<'_>, kept: &Kept) -> bool
+        ensures straight { result ≡ true → is_some self.now.straight ≡ true }
+        ensures places { result ≡ true → (item : ℕ) → self.now.straight ≡ Some (Round item)
+            → KeepsPlaces asked.now.haystack.now self.now.code.meaning
+            (search_options self.now.options).on_boundaries }
         ensures none { result ≡ true → table_kept kept.now ≡ None }
     {
-        self.straight && kept.table().is_none()
+        let Some(straight) = self.straight else {
+            return false;
+        };
+        (straight.is_match() || self.keeps_places(asked.text)) && kept.table().is_none()
     }
 
     /// The search for an easy pattern whose code is straight: its items are read, and its tests made, at each place where a match may
@@ -522,7 +531,10 @@ impl Program {
     fn read(&self, haystack: &[u8], request: &Request, work: &mut Work) -> Option<Found>
         requires inside { request.now.range_end ≤ length haystack.now }
         requires easy { program_is_easy self.now ≡ true }
-        requires straight { self.now.straight ≡ true }
+        requires straight { is_some self.now.straight ≡ true }
+        requires places { (item : ℕ) → self.now.straight ≡ Some (Round item)
+            → KeepsPlaces haystack.now self.now.code.meaning
+            (search_options self.now.options).on_boundaries }
         ensures answer { (on : Bool) → answer_with (replicate (program_groups self.now) None) result
             ≡ search (asked_of self.now haystack.now request.now on) }
         ensures counts { AddsSteps (step_bound self.now request.now) work.old work.new }
@@ -540,13 +552,34 @@ impl Program {
         let mut place = next_opening(prefilter, haystack, end, first, last, &mut region);
         'places: while place <= last {
             let past = past_straight(&self.code, haystack, suppressed, place, work);
-            let found = self.match_to(haystack, end, place, past);
-            if found.is_some() {
-                return found;
+            if let Some(found) = self.match_to(haystack, end, place, past) {
+                return Some(self.go_round(haystack, end, found, work));
             }
             place = next_opening(prefilter, haystack, end, place + 1, last, &mut region);
         }
         None
+    }
+
+    /// A match of the parts of straight code, led on by the turns of the loop that it ends with, if it does. Each ends at `range_end`
+    /// or before.
+    #[inline(always)]
+    fn go_round(&self, haystack: &[u8], range_end: usize, found: Found, work: &mut Work) -> Found
+        ensures led { (x : Context) → x.meaning ≡ self.now.code.meaning → x.haystack ≡ haystack.now
+            → IfSome self.now.straight (λ end. result ≡ record found
+            { end = past_end x (instrs_of self.now.code) range_end end found.end }) }
+        ensures counts { AddsSteps (2 * (range_end - found.end) + 1) work.old work.new }
+    {
+        let Some(straight) = self.straight else {
+            return found;
+        };
+        match straight {
+            StraightEnd::AtMatch => found,
+            StraightEnd::Round(item) => {
+                let places = found.end..range_end;
+                let end = past_turns(&self.code, haystack, item, places, work);
+                Found { end, ..found }
+            }
+        }
     }
 
     /// Whether a search of a haystack of this form goes from boundary to boundary: text by characters, or bytes one by one.
@@ -957,7 +990,10 @@ impl Program {
         ensures none { IfNone result (cache.new ≡ cache.old) }
         ensures untried { IfNone result (work.new ≡ work.old) }
     {
-        if !self.easy || !self.straight {
+        let Some(straight) = self.straight else {
+            return None;
+        };
+        if !self.easy || !straight.is_match() {
             return None;
         }
         let request = *asked.request;

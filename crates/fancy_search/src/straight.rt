@@ -1,11 +1,13 @@
-//! Straight code: items and tests of the place one after another, and then a match.
+//! Straight code: items and tests of the place one after another, and then a match, or a loop round one item and a match.
 
-ghost use Rattle.std.specs.Prelude.{◌≡◌, ◌-◌, ◌<◌, ◌≤◌, if◌then◌else◌, None, Some, IfSome, MatchOption, true};
+ghost use Rattle.std.specs.Prelude.{◌≡◌, ◌+◌, ◌-◌, ◌*◌, ◌<◌, ◌≤◌, ◌==◌, if◌then◌else◌, None, Some, IfSome, MatchOption, option_map, true};
+ghost use Rattle.fancy_tree.specs.Sets.{has};
 ghost use Rattle.fancy_code.specs.Code.{instrs_of};
+ghost use Rattle.fancy_code.specs.Instructions.{edges_in};
 ghost use Rattle.fancy_code.specs.CodeLength.{code_len};
 ghost use Rattle.fancy_code.specs.Run.{instr_at};
-ghost use Rattle.fancy_meaning.specs.Context.{Context, holds};
-ghost use Rattle.fancy_search.specs.Straight.{IsRead, after_part, is_straight, past_all, past_part};
+ghost use Rattle.fancy_meaning.specs.Context.{Context, holds, option_to};
+ghost use Rattle.fancy_search.specs.Straight.{IsRead, after_part, item_to, past_all, past_items, past_part, past_turns, round_of, straight_end};
 ghost use Rattle.fancy_states.specs.Counts.{AddsSteps};
 
 use fancy_code::code::{Code, Instr, MATCH};
@@ -13,7 +15,31 @@ use fancy_code::step::{past_character, past_member, past_raw_byte};
 use fancy_input::last_lines::LastLines;
 use fancy_input::work::Work;
 use fancy_meaning::reading::{SuppressedEnds, holds_at};
+use fancy_tree::char_set::CharSet;
 use fancy_tree::tree::{Assertion, Meaning};
+use std::ops::Range;
+
+/// How straight code ends.
+#[derive(Clone, Copy)]
+pub(crate) enum StraightEnd {
+    /// With a match.
+    AtMatch,
+    /// With a loop round the item that the instruction with this number reads, which prefers to go on, and then a match.
+    Round(usize),
+}
+
+impl StraightEnd {
+    /// Whether it is a match alone.
+    #[inline]
+    pub(crate) fn is_match(self) -> bool
+        ensures { result ≡ true → self ≡ StraightEnd.AtMatch }
+    {
+        match self {
+            StraightEnd::AtMatch => true,
+            StraightEnd::Round(_) => false,
+        }
+    }
+}
 
 /// A part of straight code at a place: an item that an instruction reads, or its test of the place.
 #[derive(Clone, Copy)]
@@ -60,10 +86,11 @@ pub(crate) fn part_at(
     at: usize,
     place: usize,
 ) -> Option<Part>
-    ensures { MatchOption result (after_part (instr_at (instrs_of code.now) at) ≡ None)
-        (λ part. (after_part (instr_at (instrs_of code.now) at) ≡ Some part.next)
-        × ((x : Context) → IsRead x haystack.now code.now.meaning suppressed
-        → part.past ≡ past_part x (instr_at (instrs_of code.now) at) place)) }
+    ensures next { option_map (λ part. part.next) result
+        ≡ after_part (instr_at (instrs_of code.now) at) }
+    ensures past { (x : Context) → IsRead x haystack.now code.now.meaning suppressed
+        → option_to result None (λ part. part.past)
+        ≡ past_part x (instr_at (instrs_of code.now) at) place }
 {
     if at >= code.len() {
         return None;
@@ -90,7 +117,7 @@ pub(crate) fn part_at(
 }
 
 /// The place past the parts of straight code that stand one after another at a place, if all of them do. Each instruction that is
-/// followed is counted as a step.
+/// followed is counted as a step. A loop at the end is not gone round.
 #[inline(always)]
 pub(crate) fn past_straight(
     code: &Code,
@@ -99,20 +126,22 @@ pub(crate) fn past_straight(
     place: usize,
     work: &mut Work,
 ) -> Option<usize>
-    requires { 0 < code_len code.now }
+    requires { 1 < code_len code.now }
     ensures read { (x : Context) → IsRead x haystack.now code.now.meaning suppressed
-        → result ≡ past_all x code.now.start (code_len code.now - 1) (instrs_of code.now) place }
-    ensures counts { AddsSteps (code_len code.now) work.old work.new }
+        → result ≡ past_all x code.now.start (code_len code.now - 2) (instrs_of code.now) place }
+    ensures counts { AddsSteps (code_len code.now - 1) work.old work.new }
 {
     work.count_step_within();
     let mut at = code.start;
     let mut past = place;
-    let mut left = code.len() - 1;
+    let mut left = code.len() - 2;
     'parts: while at != MATCH {
         if left == 0 {
             return None;
         }
-        let part = part_at(code, haystack, suppressed, at, past)?;
+        let Some(part) = part_at(code, haystack, suppressed, at, past) else {
+            return Some(past);
+        };
         past = part.past?;
         at = part.next;
         left -= 1;
@@ -140,22 +169,149 @@ pub(crate) fn after_part(code: &Code, at: usize) -> Option<usize>
     }
 }
 
-/// Whether code is straight, as `foo` and `\\b[0-9][0-9]:[0-9][0-9]\\b` are: it has no choice and no group.
-pub(crate) fn is_straight(code: &Code) -> bool
-    ensures { result ≡ true
-        → is_straight code.now.start (code_len code.now - 1) (instrs_of code.now) ≡ true }
+/// Whether an instruction reads an item of a set or a character, and goes on at `next`.
+fn reads_to(code: &Code, at: usize, next: usize) -> bool
+    ensures { result ≡ true → item_to (instr_at (instrs_of code.now) at) next ≡ true }
+{
+    if at >= code.len() {
+        return false;
+    }
+    match code.instr(at) {
+        Instr::Character(_, after) => *after == next,
+        Instr::Member(_, after) => *after == next,
+        _ => false,
+    }
+}
+
+/// The instruction of the item that a choice goes round, if it prefers that, and else goes on to a match.
+fn round_at(code: &Code, at: usize) -> Option<usize>
+    ensures { IfSome result (λ item. round_of (instrs_of code.now) at
+        (instr_at (instrs_of code.now) at) ≡ Some item) }
+{
+    let ways = code.ways(at)?;
+    if ways.second == MATCH && reads_to(code, ways.first, at) {
+        Some(ways.first)
+    } else {
+        None
+    }
+}
+
+/// How code ends that is straight, as `foo`, `\\b[0-9][0-9]:[0-9][0-9]\\b` and `#[a-z]+` are: it has no choice and no group, but for a loop
+/// at its end. `None` for other code.
+pub(crate) fn straight_end(code: &Code) -> Option<StraightEnd>
+    ensures { IfSome result (λ end. straight_end code.now.start (code_len code.now - 2)
+        (instrs_of code.now) ≡ Some end) }
 {
     let mut at = code.start;
-    let mut left = code.len().saturating_sub(1);
+    let mut left = code.len().saturating_sub(2);
     'parts: while at != MATCH {
         if left == 0 {
-            return false;
+            return None;
         }
         let Some(next) = after_part(code, at) else {
-            return false;
+            let item = round_at(code, at)?;
+            return Some(StraightEnd::Round(item));
         };
         at = next;
         left -= 1;
     }
-    true
+    Some(StraightEnd::AtMatch)
+}
+
+/// Whether code is a loop of one item alone, as `[a-z]+` is.
+pub(crate) fn is_run(code: &Code) -> bool {
+    match after_part(code, code.start) {
+        None => false,
+        Some(next) => round_at(code, next).is_some(),
+    }
+}
+
+/// The place past the members of a set that stand one after another from the first of these places on. Each ends at the last of them or
+/// before. Two steps are counted for each: the item's, and that of the choice after it.
+#[inline(never)]
+fn past_members(
+    haystack: &[u8],
+    meaning: Meaning,
+    set: &CharSet,
+    places: Range<usize>,
+    work: &mut Work,
+) -> usize
+    ensures read { (x : Context) → x.meaning ≡ meaning → x.haystack ≡ haystack.now → result
+        ≡ past_items x (has (edges_in set.now)) places.end (places.end - places.start) places.start }
+    ensures counts { AddsSteps (2 * (places.end - places.start)) work.old work.new }
+{
+    let mut past = places.start;
+    let mut left = places.end.saturating_sub(places.start);
+    'items: while left > 0 {
+        let Some(next) = past_member(haystack, meaning, set, past) else {
+            return past;
+        };
+        if next > places.end {
+            return past;
+        }
+        past = next;
+        left -= 1;
+        work.count_step_within();
+        work.count_step_within();
+    }
+    past
+}
+
+/// The place past the copies of a character that stand so, as [`past_members`] goes past members.
+#[inline(never)]
+fn past_copies(
+    haystack: &[u8],
+    meaning: Meaning,
+    character: char,
+    places: Range<usize>,
+    work: &mut Work,
+) -> usize
+    ensures read { (x : Context) → x.meaning ≡ meaning → x.haystack ≡ haystack.now → result
+        ≡ past_items x (λ d. d == character) places.end (places.end - places.start) places.start }
+    ensures counts { AddsSteps (2 * (places.end - places.start)) work.old work.new }
+{
+    let mut past = places.start;
+    let mut left = places.end.saturating_sub(places.start);
+    'items: while left > 0 {
+        let Some(next) = past_character(haystack, meaning, character, past) else {
+            return past;
+        };
+        if next > places.end {
+            return past;
+        }
+        past = next;
+        left -= 1;
+        work.count_step_within();
+        work.count_step_within();
+    }
+    past
+}
+
+/// The place past the turns of a loop round the item that an instruction reads, from the first of these places on. Each turn ends at the
+/// last of them or before. Each instruction that is followed is counted as a step, with the one that ends.
+#[inline(always)]
+pub(crate) fn past_turns(
+    code: &Code,
+    haystack: &[u8],
+    item: usize,
+    places: Range<usize>,
+    work: &mut Work,
+) -> usize
+    ensures read { (x : Context) → x.meaning ≡ code.now.meaning → x.haystack ≡ haystack.now
+        → result ≡ past_turns x places.end (instr_at (instrs_of code.now) item) places.start }
+    ensures counts { AddsSteps (2 * (places.end - places.start) + 1) work.old work.new }
+{
+    work.count_step_within();
+    if item >= code.len() {
+        return places.start;
+    }
+    match code.instr(item) {
+        Instr::Character(character, _) => {
+            past_copies(haystack, code.meaning, *character, places, work)
+        }
+        Instr::Member(set, _) => {
+            past_members(haystack, code.meaning, code.set(*set), places, work)
+        }
+        _ => places.start,
+    }
 }

@@ -9,9 +9,9 @@ use Rattle.fancy_search.proofs.straight.past_straight.Given as goal
 abbrev pub invariant-parts : goal.invariant-parts
 invariant-parts l = record {
   read : (x : Context) → IsRead x l.haystack l.code.meaning l.suppressed
-      → past_all x l.code.start (code_len l.code - 1) (instrs_of l.code) l.fn.place ≡ past_all x l.at l.left (instrs_of l.code) l.past;
-  some : l.left < code_len l.code;
-  counts : AddsSteps (code_len l.code - l.left) l.fn.work l.work;
+      → past_all x l.code.start (code_len l.code - 2) (instrs_of l.code) l.fn.place ≡ past_all x l.at l.left (instrs_of l.code) l.past;
+  some : l.left < code_len l.code - 1;
+  counts : AddsSteps (code_len l.code - 1 - l.left) l.fn.work l.work;
 }
 
 abbrev pub decreases-parts : goal.decreases-parts
