@@ -17,6 +17,7 @@ use fancy_input::work::Work;
 use fancy_meaning::reading::{SuppressedEnds, holds_at};
 use fancy_tree::char_set::CharSet;
 use fancy_tree::tree::{Assertion, Meaning};
+use std::mem;
 use std::ops::Range;
 
 /// How straight code ends.
@@ -228,7 +229,7 @@ pub(crate) fn is_run(code: &Code) -> bool {
 
 /// The place past the members of a set that stand one after another from the first of these places on. Each ends at the last of them or
 /// before. Two steps are counted for each: the item's, and that of the choice after it.
-#[inline(never)]
+#[inline(always)]
 fn past_members(
     haystack: &[u8],
     meaning: Meaning,
@@ -258,7 +259,7 @@ fn past_members(
 }
 
 /// The place past the copies of a character that stand so, as [`past_members`] goes past members.
-#[inline(never)]
+#[inline(always)]
 fn past_copies(
     haystack: &[u8],
     meaning: Meaning,
@@ -287,10 +288,10 @@ fn past_copies(
     past
 }
 
-/// The place past the turns of a loop round the item that an instruction reads, from the first of these places on. Each turn ends at the
-/// last of them or before. Each instruction that is followed is counted as a step, with the one that ends.
+/// The place past the items that an instruction reads, one after another from the first of these places on. They end and count as those
+/// of [`past_members`] do.
 #[inline(always)]
-pub(crate) fn past_turns(
+fn past_run(
     code: &Code,
     haystack: &[u8],
     item: usize,
@@ -299,9 +300,8 @@ pub(crate) fn past_turns(
 ) -> usize
     ensures read { (x : Context) → x.meaning ≡ code.now.meaning → x.haystack ≡ haystack.now
         → result ≡ past_turns x places.end (instr_at (instrs_of code.now) item) places.start }
-    ensures counts { AddsSteps (2 * (places.end - places.start) + 1) work.old work.new }
+    ensures counts { AddsSteps (2 * (places.end - places.start)) work.old work.new }
 {
-    work.count_step_within();
     if item >= code.len() {
         return places.start;
     }
@@ -314,4 +314,26 @@ pub(crate) fn past_turns(
         }
         _ => places.start,
     }
+}
+
+/// The place past the turns of a loop round the item that an instruction reads, from the first of these places on. Each turn ends at the
+/// last of them or before. Each instruction that is followed is counted as a step, with the one that ends.
+#[inline(never)]
+pub(crate) fn past_turns(
+    code: &Code,
+    haystack: &[u8],
+    item: usize,
+    places: Range<usize>,
+    work: &mut Work,
+) -> usize
+    ensures read { (x : Context) → x.meaning ≡ code.now.meaning → x.haystack ≡ haystack.now
+        → result ≡ past_turns x places.end (instr_at (instrs_of code.now) item) places.start }
+    ensures counts { AddsSteps (2 * (places.end - places.start) + 1) work.old work.new }
+{
+    // The counts are held here meanwhile, since numbers without an address cost a loop less.
+    let mut counts = mem::replace(work, Work::new());
+    counts.count_step_within();
+    let past = past_run(code, haystack, item, places, &mut counts);
+    *work = counts;
+    past
 }

@@ -1,7 +1,7 @@
 use Rattle.std.proofs.Common.{◌∙◌, ap, sym}
 use Rattle.fancy_code.specs.Code.{instr_in}
 use Rattle.fancy_search.specs.Straight.{past_turns}
-use Rattle.fancy_search.proofs.straight.past_turns.Goals as goal
+use Rattle.fancy_search.proofs.straight.past_run.Goals as goal
 
 pub returns-in-Character-clause-read : goal.returns-in-Character-clause-read
 returns-in-Character-clause-read c x m h =
