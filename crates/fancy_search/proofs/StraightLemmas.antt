@@ -1,13 +1,13 @@
 -- Straight code: the outcome of an attempt is past its items.
-use Rattle.std.proofs.Common.{cond, ◌&&◌, ◌||◌, not, ◌≡◌, ℕ, zero, suc, ◌+◌, ◌-◌, ◌*◌, ◌<◌, ◌≤◌, ◌==◌, Bool, true, false, List, [], ◌∷◌, ◌++◌, length, Option, Some, None, Ok, IsUtf8, is_some, if◌then◌else◌, nat_le, refl, sym, ap, subst, ◌∙◌, arith, slice_get, slice_index, replicate, true≢false, get_or-drop}
+use Rattle.std.proofs.Common.{cond, ◌&&◌, ◌≡◌, ℕ, zero, suc, ◌+◌, ◌-◌, ◌*◌, ◌<◌, ◌≤◌, ◌==◌, Bool, true, false, List, [], ◌∷◌, ◌++◌, length, Option, Some, None, Ok, IsUtf8, is_some, if◌then◌else◌, inl, inr, nat_le, refl, sym, ap, subst, ◌∙◌, arith, slice_get, slice_index, replicate, true≢false, get_or-drop}
 use Rattle.std.specs.Char.{len_utf8, encode_utf8}
-use Rattle.std.proofs.lemmas.Str.{len_utf8_bounds}
 use Rattle.std.proofs.Math.Logic.{∥∥₁_elim}
 use Rattle.std.proofs.Math.Nat.{mul-le-mul_right}
 use Rattle.std.proofs.Props.{props}
 use Rattle.std.specs.List.{filter}
 use Rattle.std.specs.Option.{option_or}
 use Rattle.std.specs.Prelude.{IfSome, option_map}
+use Rattle.std.proofs.lemmas.Bool.{cases_lt}
 use Rattle.std.proofs.lemmas.Bool.Decides.{nat_tests}
 use Rattle.std.proofs.lemmas.List.{length-replicate}
 use Rattle.std.proofs.lemmas.Option.{get_or_from_slice_get, same_Some}
@@ -20,10 +20,11 @@ use Rattle.fancy_tree.specs.declared.tree.Meaning.{Meaning}
 use Rattle.fancy_tree.specs.declared.tree.Meaning.TheVariants.{Unicode, Bytes, AsciiText}
 use Rattle.fancy_input.specs.Places.{char_at, is_boundary, is_continuation}
 use Rattle.fancy_input.proofs.CharacterLemmas.{char_at-bytes, char_at-fits}
+use Rattle.fancy_input.proofs.PlaceLemmas.{is_boundary_from_byte}
 use Rattle.fancy_input.proofs.TextLemmas.{char_at-boundary}
 use Rattle.fancy_meaning.specs.Placed.{reads_characters}
 use Rattle.fancy_meaning.proofs.SearchLemmas.{if_false}
-use Rattle.fancy_meaning.specs.Context.{Context, State, Unit_at, holds, moved_to, one_byte, one_character, unit_at, unit_in, past_item, past_byte, option_to}
+use Rattle.fancy_meaning.specs.Context.{Context, State, holds, moved_to, one_character, unit_at, unit_in, past_item, past_byte, option_to}
 use Rattle.fancy_meaning.specs.Events.{Event, stay, move, outcomes_in}
 use Rattle.fancy_meaning.specs.Trace.{outcomes}
 use Rattle.fancy_code.specs.Instructions.{Instruction, Match, Fail, Character, Member, RawByte, Assert, Split, Open, Close, Enter, Commit, Look, Deny, Test, Back, Recall, Keep, Continue, Taken}
@@ -42,6 +43,7 @@ use Rattle.fancy_input.specs.Work.{stepped_within}
 use Rattle.fancy_input.specs.declared.input.Request.{Request}
 use Rattle.fancy_input.specs.declared.span.Span.{Span}
 use Rattle.fancy_input.specs.declared.work.Work.{Work}
+use Rattle.fancy_meaning.proofs.Past.{byte_beyond, item_beyond}
 use Rattle.fancy_meaning.proofs.AttemptLemmas.{found_here, found_later}
 use Rattle.fancy_states.specs.Counts.{AddsSteps}
 use Rattle.fancy_states.specs.Search.{KeepsPlaces, by_bytes, by_characters}
@@ -51,9 +53,9 @@ use Rattle.fancy_search.specs.Served.{KeepsCounts}
 use Rattle.fancy_meaning.specs.Search.{Query, Answer, accepted, answer_at, answer_from, attempt, context_of, first_one, initial, is_match_boundary}
 use Rattle.fancy_prefilter.specs.NextOpening.{StartsNot}
 use Rattle.fancy_search.specs.OneItem.{IsOneItem, answer_past, answer_to}
-use Rattle.fancy_search.specs.Straight.{IsRead, after_part, item_to, past_all, past_end, past_items, past_part, past_turns, round_of, straight_end}
+use Rattle.fancy_search.specs.Straight.{IsRead, after_part, item_to, past_all, past_end, past_items, past_part, past_turns, loop_of, straight_end}
 use Rattle.fancy_search.specs.declared.straight.StraightEnd.{StraightEnd}
-use Rattle.fancy_search.specs.declared.straight.StraightEnd.TheVariants.{AtMatch, Round}
+use Rattle.fancy_search.specs.declared.straight.StraightEnd.TheVariants.{AtMatch, Loop}
 use Rattle.fancy_search.specs.declared.program.Program.{Program}
 use Rattle.fancy_search.specs.Programs.{asked_of, program_is_easy, program_options, program_step_limit}
 use Rattle.fancy_search.proofs.ProgramSizeLemmas.{parts_of_easy}
@@ -85,29 +87,12 @@ same_test x y WordEnd p meaning haystack start end = rw (meaning, haystack) refl
 same_test x y WordStartHalf p meaning haystack start end = rw (meaning, haystack) refl
 same_test x y WordEndHalf p meaning haystack start end = rw (meaning, haystack) refl
 
--- an item ends at its place or later
-unit_later : (p e : ℕ) (test : ℕ → Bool) (o : Option Unit_at) → option_to o None (λ u. if test u.code then Some (p + u.width) else None) ≡ Some e → p ≤ e
-unit_later p e test None h = cc
-unit_later p e test (Some u) h = by (test u.code) h where
-  by : (b : Bool) → (if b then Some (p + u.width) else None) ≡ Some e → p ≤ e
-  by true h = let same : p + u.width ≡ e = cc in omega (arith, same)
-  by false h = cc
+-- an item leads beyond its place
+pub some_beyond : (x : Context) (test : ℕ → Bool) (p : ℕ) (o : Option ℕ) → o ≡ past_item x test p → IfSome o (λ past. p < past)
+some_beyond x test p None e = tt
+some_beyond x test p (Some k) e = item_beyond x test p k (sym e)
 
-item_later : (x : Context) (test : ℕ → Bool) (p e : ℕ) → past_item x test p ≡ Some e → p ≤ e
-unfolding past_item
-item_later x test p e h = unit_later p e test (unit_at x p) h
-
-byte_later : (x : Context) (byte p e : ℕ) → past_byte x byte p ≡ Some e → p ≤ e
-unfolding past_byte
-byte_later x byte p e h = at (slice_get x.haystack p) h where
-  by : (b : Bool) → (if b then Some (p + 1) else None) ≡ Some e → p ≤ e
-  by true h = let same : p + 1 ≡ e = cc in omega (arith, same)
-  by false h = cc
-
-  at : (o : Option ℕ) → option_to o None (λ b. if b == byte then Some (p + 1) else None) ≡ Some e → p ≤ e
-  at None h = cc
-  at (Some b) h = by (b == byte) h
-
+-- a part ends at its place or later
 test_later : (p e : ℕ) (b : Bool) → (if b then Some p else None) ≡ Some e → p ≤ e
 test_later p e true h = let same : p ≡ e = same_Some p e h in omega (arith, same)
 test_later p e false h = cc
@@ -115,9 +100,9 @@ test_later p e false h = cc
 read_later : (x : Context) (i : Instruction) (p e : ℕ) → past_part x i p ≡ Some e → p ≤ e
 read_later x Match p e h = cc
 read_later x Fail p e h = cc
-read_later x (Character c next) p e h = item_later x (λ d. d == c) p e h
-read_later x (Member edges next) p e h = item_later x (has edges) p e h
-read_later x (RawByte byte next) p e h = byte_later x byte p e h
+read_later x (Character c next) p e h = omega (arith, item_beyond x (λ d. d == c) p e h)
+read_later x (Member edges next) p e h = omega (arith, item_beyond x (has edges) p e h)
+read_later x (RawByte byte next) p e h = omega (arith, byte_beyond x byte p e h)
 read_later x (Assert a next) p e h = test_later p e (holds x a p) h
 read_later x (Split a b) p e h = cc
 read_later x (Open group next) p e h = cc
@@ -190,37 +175,37 @@ item_of x limit (Continue next) at e = absurd (cc)
 item_of x limit (Taken number next) at e = absurd (cc)
 
 -- a choice that goes round an item
-abbrev IsRound : List Instruction → ℕ → Instruction → ℕ → Type 0
-IsRound code at i item = (i ≡ Split item 0) × (item_to (instr_at code item) at ≡ true)
+abbrev IsLoop : List Instruction → ℕ → Instruction → ℕ → Type 0
+IsLoop code at i item = (i ≡ Split item 0) × (item_to (instr_at code item) at ≡ true)
 
-round_by : (code : List Instruction) (at item first second : ℕ) (b c : Bool) → (second == 0) ≡ b → item_to (instr_at code first) at ≡ c
-    → (if b && c then Some first else None) ≡ Some item → IsRound code at (Split first second) item
-round_by code at item first second true true last to e =
+loop_by : (code : List Instruction) (at item first second : ℕ) (b c : Bool) → (second == 0) ≡ b → item_to (instr_at code first) at ≡ c
+    → (if b && c then Some first else None) ≡ Some item → IsLoop code at (Split first second) item
+loop_by code at item first second true true last to e =
     let same : first ≡ item = some_of first item e in
-    subst (IsRound code at (Split first second)) same (ap (Split first) (to_of second 0 last), to)
-round_by code at item first second true false last to e = absurd (cc)
-round_by code at item first second false c last to e = absurd (cc)
+    subst (IsLoop code at (Split first second)) same (ap (Split first) (to_of second 0 last), to)
+loop_by code at item first second true false last to e = absurd (cc)
+loop_by code at item first second false c last to e = absurd (cc)
 
-is_round : (code : List Instruction) (at item : ℕ) (i : Instruction) → round_of code at i ≡ Some item → IsRound code at i item
-is_round code at item Match e = absurd (cc)
-is_round code at item Fail e = absurd (cc)
-is_round code at item (Character c next) e = absurd (cc)
-is_round code at item (Member edges next) e = absurd (cc)
-is_round code at item (RawByte byte next) e = absurd (cc)
-is_round code at item (Assert a next) e = absurd (cc)
-is_round code at item (Split first second) e = round_by code at item first second _ _ refl refl e
-is_round code at item (Open group next) e = absurd (cc)
-is_round code at item (Close group next) e = absurd (cc)
-is_round code at item (Enter body) e = absurd (cc)
-is_round code at item (Commit next) e = absurd (cc)
-is_round code at item (Look behind body next) e = absurd (cc)
-is_round code at item (Deny behind body next) e = absurd (cc)
-is_round code at item (Test body other) e = absurd (cc)
-is_round code at item (Back n next) e = absurd (cc)
-is_round code at item (Recall folded number moved still) e = absurd (cc)
-is_round code at item (Keep next) e = absurd (cc)
-is_round code at item (Continue next) e = absurd (cc)
-is_round code at item (Taken number next) e = absurd (cc)
+is_loop : (code : List Instruction) (at item : ℕ) (i : Instruction) → loop_of code at i ≡ Some item → IsLoop code at i item
+is_loop code at item Match e = absurd (cc)
+is_loop code at item Fail e = absurd (cc)
+is_loop code at item (Character c next) e = absurd (cc)
+is_loop code at item (Member edges next) e = absurd (cc)
+is_loop code at item (RawByte byte next) e = absurd (cc)
+is_loop code at item (Assert a next) e = absurd (cc)
+is_loop code at item (Split first second) e = loop_by code at item first second _ _ refl refl e
+is_loop code at item (Open group next) e = absurd (cc)
+is_loop code at item (Close group next) e = absurd (cc)
+is_loop code at item (Enter body) e = absurd (cc)
+is_loop code at item (Commit next) e = absurd (cc)
+is_loop code at item (Look behind body next) e = absurd (cc)
+is_loop code at item (Deny behind body next) e = absurd (cc)
+is_loop code at item (Test body other) e = absurd (cc)
+is_loop code at item (Back n next) e = absurd (cc)
+is_loop code at item (Recall folded number moved still) e = absurd (cc)
+is_loop code at item (Keep next) e = absurd (cc)
+is_loop code at item (Continue next) e = absurd (cc)
+is_loop code at item (Taken number next) e = absurd (cc)
 
 -- what is taken past the parts of straight code
 abbrev wanted_of : Context → ℕ → List Instruction → State → (State → Bool) → StraightEnd → Option ℕ → Option State
@@ -239,58 +224,53 @@ items_far x test limit (suc n) p k e far = rw (e, le_false k limit far) refl
 pub items_on : (x : Context) (test : ℕ → Bool) (limit n p k : ℕ) → past_item x test p ≡ Some k → k ≤ limit → past_items x test limit (suc n) p ≡ past_items x test limit n k
 items_on x test limit n p k e le = rw (e, le_true k limit le) refl
 
-pub items_turn : (x : Context) (test : ℕ → Bool) (limit n p k : ℕ) → 0 < n → past_item x test p ≡ Some k → k ≤ limit → past_items x test limit n p ≡ past_items x test limit (n - 1) k
-items_turn x test limit zero p k some e le = absurd (omega (arith, some))
-items_turn x test limit (suc n) p k some e le =
-    let same : n ≡ suc n - 1 = omega arith in
-    items_on x test limit n p k e le ∙ ap (λ (m : ℕ). past_items x test limit m k) same
+-- none fits where the places end
+pub items_over : (x : Context) (test : ℕ → Bool) (limit n p : ℕ) → limit ≤ p → past_items x test limit n p ≡ p
+items_over x test limit n p over = at (past_item x test p) refl where
+  at : (o : Option ℕ) → past_item x test p ≡ o → past_items x test limit n p ≡ p
+  at None e = items_none x test limit n p e
+  at (Some k) e = items_far x test limit n p k e (omega (arith, over, item_beyond x test p k e))
 
-pub items_over : (x : Context) (test : ℕ → Bool) (limit n p : ℕ) → n ≤ 0 → past_items x test limit n p ≡ p
-items_over x test limit zero p none = refl
-items_over x test limit (suc n) p none = absurd (omega (arith, none))
+-- no more of them fit than there are places
+abbrev Enough : (x : Context) (test : ℕ → Bool) (limit n m p : ℕ) → Type 0
+Enough x test limit n m p = past_items x test limit n p ≡ past_items x test limit m p
+
+enough_by : (x : Context) (test : ℕ → Bool) (limit n m p : ℕ) (o : Option ℕ) → past_item x test p ≡ o → ((k : ℕ) → o ≡ Some k → k ≤ limit → Enough x test limit n m k)
+    → Enough x test limit (suc n) (suc m) p
+enough_by x test limit n m p None e on = items_none x test limit (suc n) p e ∙ sym (items_none x test limit (suc m) p e)
+enough_by x test limit n m p (Some k) e on = elim (cases_lt limit k) [
+  | inl far ↦ items_far x test limit (suc n) p k e far ∙ sym (items_far x test limit (suc m) p k e far)
+  | inr le ↦ items_on x test limit n p k e le ∙ on k refl le ∙ sym (items_on x test limit m p k e le)
+]
+
+pub items_enough : (x : Context) (test : ℕ → Bool) (limit n m p : ℕ) → limit ≤ p + n → limit ≤ p + m → Enough x test limit n m p
+items_enough x test limit zero zero p a b = refl
+items_enough x test limit zero (suc m) p a b = sym (items_over x test limit (suc m) p (omega (arith, a)))
+items_enough x test limit (suc n) zero p a b = items_over x test limit (suc n) p (omega (arith, b))
+items_enough x test limit (suc n) (suc m) p a b =
+    enough_by x test limit n m p (past_item x test p) refl
+    (λ k is le. items_enough x test limit n m k (omega (arith, item_beyond x test p k is, a)) (omega (arith, item_beyond x test p k is, b)))
+
+-- past one more of them
+pub items_turn : (x : Context) (test : ℕ → Bool) (limit p k : ℕ) → past_item x test p ≡ Some k → k ≤ limit → past_items x test limit (limit - p) p ≡ past_items x test limit (limit - k) k
+items_turn x test limit p k e le =
+    let more = item_beyond x test p k e in
+    let left : limit - p ≡ suc (limit - p - 1) = omega (arith, more, le) in
+    ap (λ (n : ℕ). past_items x test limit n p) left ∙ items_on x test limit (limit - p - 1) p k e le
+    ∙ items_enough x test limit (limit - p - 1) (limit - k) k (omega (arith, more, le)) (omega arith)
 
 -- two steps are counted for one more of them
-pub items_counted : (bytes left : ℕ) (before between mid after : Work) → 0 < left → left ≤ bytes → AddsSteps (2 * (bytes - left)) before between
-    → mid ≡ stepped_within between → after ≡ stepped_within mid → AddsSteps (2 * (bytes - (left - 1))) before after
-items_counted bytes left before between mid after some le adds first second =
+pub items_counted : (start past next : ℕ) (before between mid after : Work) → start ≤ past → past < next → AddsSteps (2 * (past - start)) before between
+    → mid ≡ stepped_within between → after ≡ stepped_within mid → AddsSteps (2 * (next - start)) before after
+items_counted start past next before between mid after from more adds first second =
     let one = one_step between mid first in
     let two = one_step mid after second in
     record {
       steps = omega (arith, adds.steps, one.more, two.more);
-      bounded = omega (arith, adds.bounded, one.one, two.one, some, le);
+      bounded = omega (arith, adds.bounded, one.one, two.one, from, more);
       returns = two.returns ∙ one.returns ∙ adds.returns;
       units = two.units ∙ one.units ∙ adds.units;
     }
-
--- an item has a byte
-width_some : (p e : ℕ) (test : ℕ → Bool) (o : Option Unit_at) → ((u : Unit_at) → o ≡ Some u → 0 < u.width)
-    → option_to o None (λ u. if test u.code then Some (p + u.width) else None) ≡ Some e → p < e
-width_some p e test None wide h = absurd (cc)
-width_some p e test (Some u) wide h = by (test u.code) h where
-  by : (b : Bool) → (if b then Some (p + u.width) else None) ≡ Some e → p < e
-  by true h = let same : p + u.width ≡ e = some_of _ e h in omega (arith, same, wide u refl)
-  by false h = absurd (cc)
-
-character_wide : (o : Option ℕ) (u : Unit_at) → one_character o ≡ Some u → 0 < u.width
-character_wide None u e = absurd (cc)
-character_wide (Some c) u e =
-    let same : record { code = c; width = len_utf8 c } ≡ u = cc in
-    subst (λ (v : Unit_at). 0 < v.width) same (omega (arith, (len_utf8_bounds c).0))
-
-byte_wide : (o : Option ℕ) (u : Unit_at) → one_byte o ≡ Some u → 0 < u.width
-byte_wide None u e = absurd (cc)
-byte_wide (Some b) u e =
-    let same : record { code = b; width = 1 } ≡ u = cc in
-    subst (λ (v : Unit_at). 0 < v.width) same (omega arith)
-
-unit_wide : (m : Meaning) (haystack : List ℕ) (p : ℕ) (u : Unit_at) → unit_in m haystack p ≡ Some u → 0 < u.width
-unit_wide Unicode haystack p u e = character_wide (char_at haystack p) u e
-unit_wide Bytes haystack p u e = byte_wide (slice_get haystack p) u e
-unit_wide AsciiText haystack p u e = character_wide (char_at haystack p) u e
-
-pub item_wide : (x : Context) (test : ℕ → Bool) (p e : ℕ) → past_item x test p ≡ Some e → p < e
-unfolding past_item unit_at
-item_wide x test p e h = width_some p e test (unit_in x.meaning x.haystack p) (unit_wide x.meaning x.haystack p) h
 
 module _ (x : Context) (limit : ℕ) (code : List Instruction) (matching : instr_at code 0 ≡ Match) (s : State) (v : List ℕ) where
   -- what follows after a fetch
@@ -407,9 +387,9 @@ module _ (x : Context) (limit : ℕ) (code : List Instruction) (matching : instr
           → option_or (first u) (first b) ≡ taken p (past_items x i.test limit n p)
       turn_led m p n turns room u b (stops none far) last =
           subst (λ (z : List Raw). option_or (first z) (first b) ≡ taken p (past_items x i.test limit n p)) none (none_first p n b (over p n _ refl far) last)
-      turn_led m p zero turns room u b (goes k is le e) last = absurd (omega (arith, item_wide x i.test p k is, le, room))
+      turn_led m p zero turns room u b (goes k is le e) last = absurd (omega (arith, item_beyond x i.test p k is, le, room))
       turn_led m p (suc n) turns room u b (goes k is le e) last =
-          let on = turns k n (omega (arith, item_wide x i.test p k is, room)) u e in
+          let on = turns k n (omega (arith, item_beyond x i.test p k is, room)) u e in
           rw (on, last, items_on x i.test limit n p k is le, sym (alike p k is)) (or_taken (accept (moved_to s p)) _ _)
 
       turn_by : (m p n : ℕ) → Turns m → limit ≤ p + n → (a b : List Raw) → before (Note fetched) (act x limit item (instr_at code item) (run x limit code m) (run x (length x.haystack) code m) (moved_to s p) v) ≡ Some a
@@ -433,7 +413,7 @@ module _ (x : Context) (limit : ℕ) (code : List Instruction) (matching : instr
       turns_first (suc zero) p n room w e = both zero p n room (λ a b no last. absurd (cc)) w _ _ refl refl (rw round at e)
       turns_first (suc (suc m)) p n room w e = both (suc m) p n room (λ a b is last. turn_by m p n (turns_first m) room a b is last) w _ _ refl refl (rw round at e)
 
-    module _ (end : StraightEnd) (alike : (item : ℕ) → end ≡ Round item → (test : ℕ → Bool) (p k : ℕ) → past_item x test p ≡ Some k → accept (moved_to s p) ≡ accept (moved_to s k)) where
+    module _ (end : StraightEnd) (alike : (item : ℕ) → end ≡ Loop item → (test : ℕ → Bool) (p k : ℕ) → past_item x test p ≡ Some k → accept (moved_to s p) ≡ accept (moved_to s k)) where
       abbrev wanted : Option ℕ → Option State
       wanted = wanted_of x limit code s accept end
 
@@ -456,22 +436,22 @@ module _ (x : Context) (limit : ℕ) (code : List Instruction) (matching : instr
       part_led n m next o along ends u (goes k is le e) = along next k ends le u e ∙ rw is refl
 
       -- the loop at the end
-      round_end : (m q p item : ℕ) → IsRound code q (instr_at code q) item → Some (Round item) ≡ Some end → p ≤ limit → (w : List Raw) → run x limit code m q (moved_to s p) v ≡ Some w → first w ≡ wanted (Some p)
-      round_end m q p item is ends le w e =
-          let same : Round item ≡ end = cc in
+      loop_end : (m q p item : ℕ) → IsLoop code q (instr_at code q) item → Some (Loop item) ≡ Some end → p ≤ limit → (w : List Raw) → run x limit code m q (moved_to s p) v ≡ Some w → first w ≡ wanted (Some p)
+      loop_end m q p item is ends le w e =
+          let same : Loop item ≡ end = cc in
           let i = item_of x limit (instr_at code item) q is.1 in
           turns_first q item is.0 i (alike item (sym same) i.test) m p (limit - p) (omega (arith, le)) w e
           ∙ ap (taken p) (sym (i.turns p) ∙ ap (λ (z : StraightEnd). past_end x code limit z p) same)
           ∙ sym (wanted_in p le)
 
       -- from an instruction on that is a part, or that loop
-      from : (n m q p : ℕ) (a : Option ℕ) → after_part (instr_at code q) ≡ a → Along n m → option_to a (option_map Round (round_of code q (instr_at code q))) (λ next. straight_end next n code) ≡ Some end
+      from : (n m q p : ℕ) (a : Option ℕ) → after_part (instr_at code q) ≡ a → Along n m → option_to a (option_map Loop (loop_of code q (instr_at code q))) (λ next. straight_end next n code) ≡ Some end
           → p ≤ limit → (w : List Raw) → run x limit code (suc m) q (moved_to s p) v ≡ Some w
           → first w ≡ wanted (option_to a (Some p) (λ next. option_to (past_part x (instr_at code q) p) None (past_all x next n code)))
-      from n m q p None is along ends le w e = at (round_of code q (instr_at code q)) refl ends where
-        at : (r : Option ℕ) → round_of code q (instr_at code q) ≡ r → option_map Round r ≡ Some end → first w ≡ wanted (Some p)
+      from n m q p None is along ends le w e = at (loop_of code q (instr_at code q)) refl ends where
+        at : (r : Option ℕ) → loop_of code q (instr_at code q) ≡ r → option_map Loop r ≡ Some end → first w ≡ wanted (Some p)
         at None none ends = absurd (cc)
-        at (Some item) some ends = round_end (suc m) q p item (is_round code q item (instr_at code q) some) ends le w e
+        at (Some item) some ends = loop_end (suc m) q p item (is_loop code q item (instr_at code q) some) ends le w e
       from n m q p (Some next) is along ends le w e =
           after_fetch (λ w. first w ≡ wanted (option_to (past_part x (instr_at code q) p) None (past_all x next n code))) _ w
           (λ u go. part_led n m next _ along ends u (led m q p next (run x (length x.haystack) code m) (instr_at code q) is le u go)) e
@@ -497,9 +477,7 @@ character_stands haystack p c e =
     let b = char_at-bytes haystack p c e in
     let at : p + 0 ≡ p = omega arith in
     let there : slice_index haystack p ≡ slice_index (encode_utf8 c ++ b.1) 0 = ap (slice_index haystack) (sym at) ∙ sym (get_or-drop p haystack 0 0) ∙ ap (λ (xs : List ℕ). slice_index xs 0) b.2 in
-    begins_at (slice_index haystack p) (ap is_continuation there ∙ first_begins c b.1) where
-      begins_at : (b : ℕ) → is_continuation b ≡ false → ((p == 0) || (nat_le (length haystack) p || not (is_continuation b))) ≡ true
-      begins_at b e = grind (arith, nat_tests)
+    is_boundary_from_byte haystack p (ap is_continuation there ∙ first_begins c b.1)
 
 character_leads : (haystack : List ℕ) (p k : ℕ) (test : ℕ → Bool) (o : Option ℕ) → char_at haystack p ≡ o → IsUtf8 haystack
     → option_to (one_character o) None (λ u. if test u.code then Some (p + u.width) else None) ≡ Some k → (is_boundary haystack p ≡ true) × (is_boundary haystack k ≡ true)
@@ -531,7 +509,7 @@ accepted_alike q at p k a b any = rw (a, b, any) refl
 
 -- the answer of an attempt of straight code
 straight_found : (q : Query) (code : Code) → IsCodeOf q.sought.pattern code → q.sought.meaning ≡ code.meaning → q.request.range_end ≤ length q.haystack → q.sought.longest ≡ false → q.sought.not_empty ≡ false
-    → (n : ℕ) (end : StraightEnd) → straight_end code.start n (instrs_of code) ≡ Some end → ((item : ℕ) → end ≡ Round item → KeepsPlaces q.haystack q.sought.meaning q.sought.on_boundaries)
+    → (n : ℕ) (end : StraightEnd) → straight_end code.start n (instrs_of code) ≡ Some end → ((item : ℕ) → end ≡ Loop item → KeepsPlaces q.haystack q.sought.meaning q.sought.on_boundaries)
     → (p : ℕ) → p ≤ q.request.range_end
     → attempt q p ≡ answer_past q p (past_end (context_of q) (instrs_of code) q.request.range_end end) (past_all (context_of q) code.start n (instrs_of code) p)
 unfolding answer_at outcomes
@@ -566,7 +544,7 @@ reads r haystack request on suppressed ends = record {
 -- what an attempt with a program of straight code answers
 pub straight_at : (r : Program) (haystack : List ℕ) (request : Request) (on : Bool) (p : ℕ) (past : Option ℕ) → request.range_end ≤ length haystack → p ≤ request.range_end → program_is_easy r ≡ true
     → (end : StraightEnd) → straight_end r.code.start (code_len r.code - 2) (instrs_of r.code) ≡ Some end
-    → ((item : ℕ) → end ≡ Round item → KeepsPlaces haystack r.code.meaning (search_options r.options).on_boundaries)
+    → ((item : ℕ) → end ≡ Loop item → KeepsPlaces haystack r.code.meaning (search_options r.options).on_boundaries)
     → (suppressed : SuppressedEnds) → suppressed ≡ suppressed_ends (program_options r).allow_input_assertion_overrides request
     → ((x : Context) → IsRead x haystack r.code.meaning suppressed → past ≡ past_all x r.code.start (code_len r.code - 2) (instrs_of r.code) p)
     → attempt (asked_of r haystack request on) p ≡ answer_past (asked_of r haystack request on) p (past_end (context_of (asked_of r haystack request on)) (instrs_of r.code) request.range_end end) past
@@ -586,7 +564,7 @@ end_of r some = at r.straight refl some where
   at (Some end) is some = (end, is, r.direct end is)
 
 pub straight_of : (r : Program) (haystack : List ℕ) (request : Request) (on : Bool) (p : ℕ) (past : Option ℕ) → request.range_end ≤ length haystack → p ≤ request.range_end → program_is_easy r ≡ true
-    → (some : is_some r.straight ≡ true) → ((item : ℕ) → r.straight ≡ Some (Round item) → KeepsPlaces haystack r.code.meaning (search_options r.options).on_boundaries)
+    → (some : is_some r.straight ≡ true) → ((item : ℕ) → r.straight ≡ Some (Loop item) → KeepsPlaces haystack r.code.meaning (search_options r.options).on_boundaries)
     → (suppressed : SuppressedEnds) → suppressed ≡ suppressed_ends (program_options r).allow_input_assertion_overrides request
     → ((x : Context) → IsRead x haystack r.code.meaning suppressed → past ≡ past_all x r.code.start (code_len r.code - 2) (instrs_of r.code) p)
     → attempt (asked_of r haystack request on) p
@@ -602,8 +580,8 @@ of_end P o end is all = rw is at all
 pub to_end : (P : StraightEnd → Type 0) (o : Option StraightEnd) (end : StraightEnd) → o ≡ Some end → P end → IfSome o P
 to_end P o end is one = rw is one
 
-pub no_round : (item : ℕ) → ¬ (AtMatch ≡ Round item)
-no_round item e = absurd (cc)
+pub no_loop : (item : ℕ) → ¬ (AtMatch ≡ Loop item)
+no_loop item e = absurd (cc)
 
 pub same_end : (o : Option StraightEnd) (a b : StraightEnd) → o ≡ Some a → o ≡ Some b → a ≡ b
 same_end o a b x y = same_Some a b (sym x ∙ y)
@@ -662,11 +640,6 @@ none_on q p on (Some e) found = by (nat_le e q.request.range_end && accepted q p
   by : (b : Bool) → None ≡ (if b then Some (answer e) else None) → (if b then Some (answer (on e)) else None) ≡ None
   by true found = absurd (cc)
   by false found = refl
-
--- where it is led nowhere, it is the same
-pub as_found : (q : Query) (p : ℕ) (past : Option ℕ) → answer_past q p (λ e. e) past ≡ answer_to q p past
-as_found q p None = refl
-as_found q p (Some e) = refl
 
 -- positions where no match may start are passed over
 pub passed_to : (r : Program) (haystack : List ℕ) (request : Request) (on : Bool) (n m p to : ℕ) → request.range_end ≤ length haystack → ((k : ℕ) → slice_index haystack k < 256)

@@ -10,21 +10,17 @@ use Rattle.fancy_search.specs.Straight.{after_part}
 abbrev pub IsOneItem : Instruction → Type 0
 IsOneItem i = after_part i ≡ Some 0
 
--- the answer of an attempt at p whose one outcome is at this place, if there is one
-abbrev pub answer_to : Query → ℕ → Option ℕ → Option Answer
-answer_to q p None = None
-answer_to q p (Some end) =
-    if nat_le end q.request.range_end && accepted q p (moved_to (initial q p) end)
-    then Some (record { position = p; state = moved_to (initial q p) end })
-    else None
-
--- the same where a match is led on from that place to another
+-- the answer of an attempt at p whose one outcome is at this place, if there is one, where a match is led on from there to another place
 abbrev pub answer_past : Query → ℕ → (ℕ → ℕ) → Option ℕ → Option Answer
 answer_past q p on None = None
 answer_past q p on (Some end) =
     if nat_le end q.request.range_end && accepted q p (moved_to (initial q p) end)
     then Some (record { position = p; state = moved_to (initial q p) (on end) })
     else None
+
+-- the same where it is led nowhere
+abbrev pub answer_to : Query → ℕ → Option ℕ → Option Answer
+answer_to q p past = answer_past q p (λ end. end) past
 
 -- n choices follow one after another from q on, and each way of them reads one item, after which there is an outcome
 abbrev pub EachReadsOne : List Instruction → ℕ → ℕ → Type 0

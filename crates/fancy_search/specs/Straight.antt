@@ -4,10 +4,12 @@ use Rattle.fancy_tree.specs.Sets.{has}
 use Rattle.fancy_tree.specs.declared.tree.Meaning.{Meaning}
 use Rattle.fancy_meaning.specs.Context.{Context, holds, option_to, past_item, past_byte}
 use Rattle.fancy_meaning.specs.declared.reading.SuppressedEnds.{SuppressedEnds}
-use Rattle.fancy_code.specs.Instructions.{Instruction, Match, Fail, Character, Member, RawByte, Assert, Split, Open, Close, Enter, Commit, Look, Deny, Test, Back, Recall, Keep, Continue, Taken}
+use Rattle.fancy_code.specs.Instructions.{edges_in, Instruction, Match, Fail, Character, Member, RawByte, Assert, Split, Open, Close, Enter, Commit, Look, Deny, Test, Back, Recall, Keep, Continue, Taken}
 use Rattle.fancy_code.specs.Run.{instr_at}
+use Rattle.fancy_search.specs.declared.straight.Item.{Item}
+use Rattle.fancy_search.specs.declared.straight.Item.TheVariants as items
 use Rattle.fancy_search.specs.declared.straight.StraightEnd.{StraightEnd}
-use Rattle.fancy_search.specs.declared.straight.StraightEnd.TheVariants.{AtMatch, Round}
+use Rattle.fancy_search.specs.declared.straight.StraightEnd.TheVariants.{AtMatch, Loop}
 
 -- The context reads this haystack so, with these ends of the text suppressed.
 pub record IsRead (x : Context) (haystack : List ℕ) (meaning : Meaning) (suppressed : SuppressedEnds) : Type 0 where
@@ -67,16 +69,16 @@ item_to (Member edges q) next = q == next
 item_to i next = false
 
 -- where the instruction at q is a choice to go round an item once more, or to match: the instruction of the item
-abbrev pub round_of : List Instruction → ℕ → Instruction → Option ℕ
-round_of code q (Split first second) = if second == 0 && item_to (instr_at code first) q then Some first else None
-round_of code q i = None
+abbrev pub loop_of : List Instruction → ℕ → Instruction → Option ℕ
+loop_of code q (Split first second) = if second == 0 && item_to (instr_at code first) q then Some first else None
+loop_of code q i = None
 
 -- from q on, n parts at most come one after another, and then there is a match, or such a choice: how they end
 abbrev pub straight_end : ℕ → ℕ → List Instruction → Option StraightEnd
 straight_end zero n code = Some AtMatch
 straight_end (suc q) zero code = None
 straight_end (suc q) (suc n) code =
-    option_to (after_part (instr_at code (suc q))) (option_map Round (round_of code (suc q) (instr_at code (suc q)))) (λ next. straight_end next n code)
+    option_to (after_part (instr_at code (suc q))) (option_map Loop (loop_of code (suc q) (instr_at code (suc q)))) (λ next. straight_end next n code)
 
 -- the place past these parts, if they all stand one after another at p
 abbrev pub past_all : Context → ℕ → ℕ → List Instruction → ℕ → Option ℕ
@@ -84,6 +86,11 @@ past_all x zero n code p = Some p
 past_all x (suc q) zero code p = None
 past_all x (suc q) (suc n) code p =
     option_to (after_part (instr_at code (suc q))) (Some p) (λ next. option_to (past_part x (instr_at code (suc q)) p) None (past_all x next n code))
+
+-- which characters an item of a loop may be
+abbrev pub test_of : Item → ℕ → Bool
+test_of (items.Character c) = λ d. d == c
+test_of (items.Member set) = has (edges_in set.now)
 
 -- the place past n items at most that pass the test and stand one after another from p on, each of which ends by the limit
 abbrev pub past_items : Context → (ℕ → Bool) → ℕ → ℕ → ℕ → ℕ
@@ -99,4 +106,4 @@ past_turns x limit i p = p
 -- where a match ends whose parts end at p
 abbrev pub past_end : Context → List Instruction → ℕ → StraightEnd → ℕ → ℕ
 past_end x code limit AtMatch p = p
-past_end x code limit (Round item) p = past_turns x limit (instr_at code item) p
+past_end x code limit (Loop item) p = past_turns x limit (instr_at code item) p

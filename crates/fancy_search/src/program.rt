@@ -35,7 +35,7 @@ ghost use Rattle.fancy_search.specs.ProgramSize.{IsRefusedUnder, RefusesPattern,
 ghost use Rattle.fancy_search.specs.Cached.{IsAttemptIn};
 ghost use Rattle.fancy_search.specs.OneItem.{AreOneItems, answer_to};
 ghost use Rattle.fancy_search.specs.Straight.{past_end, straight_end};
-ghost use Rattle.fancy_search.specs.declared.straight.StraightEnd.TheVariants.{Round};
+ghost use Rattle.fancy_search.specs.declared.straight.StraightEnd.TheVariants.{Loop};
 
 use crate::asked::Asked;
 use crate::cache::{AttemptCache, AttemptNotes, Cache, Engine, Kept, RememberedSteps};
@@ -514,7 +514,7 @@ impl Program {
     #[inline(always)]
     fn is_read(&self, asked: &Asked<'_>, kept: &Kept) -> bool
         ensures straight { result ≡ true → is_some self.now.straight ≡ true }
-        ensures places { result ≡ true → (item : ℕ) → self.now.straight ≡ Some (Round item)
+        ensures places { result ≡ true → (item : ℕ) → self.now.straight ≡ Some (Loop item)
             → KeepsPlaces asked.now.haystack.now self.now.code.meaning
             (search_options self.now.options).on_boundaries }
         ensures none { result ≡ true → table_kept kept.now ≡ None }
@@ -532,7 +532,7 @@ impl Program {
         requires inside { request.now.range_end ≤ length haystack.now }
         requires easy { program_is_easy self.now ≡ true }
         requires straight { is_some self.now.straight ≡ true }
-        requires places { (item : ℕ) → self.now.straight ≡ Some (Round item)
+        requires places { (item : ℕ) → self.now.straight ≡ Some (Loop item)
             → KeepsPlaces haystack.now self.now.code.meaning
             (search_options self.now.options).on_boundaries }
         ensures answer { (on : Bool) → answer_with (replicate (program_groups self.now) None) result
@@ -574,7 +574,7 @@ impl Program {
         };
         match straight {
             StraightEnd::AtMatch => found,
-            StraightEnd::Round(item) => {
+            StraightEnd::Loop(item) => {
                 let places = found.end..range_end;
                 let end = past_turns(&self.code, haystack, item, places, work);
                 Found { end, ..found }

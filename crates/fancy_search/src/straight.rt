@@ -6,8 +6,8 @@ ghost use Rattle.fancy_code.specs.Code.{instrs_of};
 ghost use Rattle.fancy_code.specs.Instructions.{edges_in};
 ghost use Rattle.fancy_code.specs.CodeLength.{code_len};
 ghost use Rattle.fancy_code.specs.Run.{instr_at};
-ghost use Rattle.fancy_meaning.specs.Context.{Context, holds, option_to};
-ghost use Rattle.fancy_search.specs.Straight.{IsRead, after_part, item_to, past_all, past_items, past_part, past_turns, round_of, straight_end};
+ghost use Rattle.fancy_meaning.specs.Context.{Context, holds, option_to, past_item};
+ghost use Rattle.fancy_search.specs.Straight.{IsRead, after_part, item_to, past_all, past_items, past_part, past_turns, loop_of, straight_end, test_of};
 ghost use Rattle.fancy_states.specs.Counts.{AddsSteps};
 
 use fancy_code::code::{Code, Instr, MATCH};
@@ -25,8 +25,8 @@ use std::ops::Range;
 pub(crate) enum StraightEnd {
     /// With a match.
     AtMatch,
-    /// With a loop round the item that the instruction with this number reads, which prefers to go on, and then a match.
-    Round(usize),
+    /// With a loop round the item that the instruction with this number reads, which prefers to go on, and a match after it.
+    Loop(usize),
 }
 
 impl StraightEnd {
@@ -37,7 +37,31 @@ impl StraightEnd {
     {
         match self {
             StraightEnd::AtMatch => true,
-            StraightEnd::Round(_) => false,
+            StraightEnd::Loop(_) => false,
+        }
+    }
+}
+
+/// An item that a loop goes round.
+#[derive(Clone, Copy)]
+enum Item<'c> {
+    /// This character.
+    Character(char),
+    /// A character that this set has.
+    Member(&'c CharSet),
+}
+
+impl<'c> Item<'c> {
+    /// The place past the item at a place, a byte offset, if it stands there.
+    #[inline(always)]
+    fn past(self, haystack: &[u8], meaning: Meaning, place: usize) -> Option<usize>
+        ensures read { (x : Context) → x.meaning ≡ meaning → x.haystack ≡ haystack.now
+            → result ≡ past_item x (test_of self.entry) place }
+        ensures beyond { IfSome result (λ past. place < past) }
+    {
+        match self {
+            Item::Character(character) => past_character(haystack, meaning, character, place),
+            Item::Member(set) => past_member(haystack, meaning, set, place),
         }
     }
 }
@@ -185,8 +209,8 @@ fn reads_to(code: &Code, at: usize, next: usize) -> bool
 }
 
 /// The instruction of the item that a choice goes round, if it prefers that, and else goes on to a match.
-fn round_at(code: &Code, at: usize) -> Option<usize>
-    ensures { IfSome result (λ item. round_of (instrs_of code.now) at
+fn loop_at(code: &Code, at: usize) -> Option<usize>
+    ensures { IfSome result (λ item. loop_of (instrs_of code.now) at
         (instr_at (instrs_of code.now) at) ≡ Some item) }
 {
     let ways = code.ways(at)?;
@@ -210,8 +234,8 @@ pub(crate) fn straight_end(code: &Code) -> Option<StraightEnd>
             return None;
         }
         let Some(next) = after_part(code, at) else {
-            let item = round_at(code, at)?;
-            return Some(StraightEnd::Round(item));
+            let item = loop_at(code, at)?;
+            return Some(StraightEnd::Loop(item));
         };
         at = next;
         left -= 1;
@@ -219,77 +243,44 @@ pub(crate) fn straight_end(code: &Code) -> Option<StraightEnd>
     Some(StraightEnd::AtMatch)
 }
 
-/// Whether code is a loop of one item alone, as `[a-z]+` is.
+/// Whether code is one item and then a loop round one, as `[a-z]+` and `#.*` are.
 pub(crate) fn is_run(code: &Code) -> bool {
     match after_part(code, code.start) {
         None => false,
-        Some(next) => round_at(code, next).is_some(),
+        Some(next) => loop_at(code, next).is_some(),
     }
 }
 
-/// The place past the members of a set that stand one after another from the first of these places on. Each ends at the last of them or
-/// before. Two steps are counted for each: the item's, and that of the choice after it.
+/// The place past the items that stand one after another from the first of these places on. Each ends at the last of them or before. Two
+/// steps are counted for each: the item's, and that of the choice after it.
 #[inline(always)]
-fn past_members(
+fn past_items(
     haystack: &[u8],
     meaning: Meaning,
-    set: &CharSet,
+    item: Item<'_>,
     places: Range<usize>,
     work: &mut Work,
 ) -> usize
     ensures read { (x : Context) → x.meaning ≡ meaning → x.haystack ≡ haystack.now → result
-        ≡ past_items x (has (edges_in set.now)) places.end (places.end - places.start) places.start }
+        ≡ past_items x (test_of item.entry) places.end (places.end - places.start) places.start }
     ensures counts { AddsSteps (2 * (places.end - places.start)) work.old work.new }
 {
     let mut past = places.start;
-    let mut left = places.end.saturating_sub(places.start);
-    'items: while left > 0 {
-        let Some(next) = past_member(haystack, meaning, set, past) else {
+    'items: while past < places.end {
+        let Some(next) = item.past(haystack, meaning, past) else {
             return past;
         };
         if next > places.end {
             return past;
         }
         past = next;
-        left -= 1;
         work.count_step_within();
         work.count_step_within();
     }
     past
 }
 
-/// The place past the copies of a character that stand so, as [`past_members`] goes past members.
-#[inline(always)]
-fn past_copies(
-    haystack: &[u8],
-    meaning: Meaning,
-    character: char,
-    places: Range<usize>,
-    work: &mut Work,
-) -> usize
-    ensures read { (x : Context) → x.meaning ≡ meaning → x.haystack ≡ haystack.now → result
-        ≡ past_items x (λ d. d == character) places.end (places.end - places.start) places.start }
-    ensures counts { AddsSteps (2 * (places.end - places.start)) work.old work.new }
-{
-    let mut past = places.start;
-    let mut left = places.end.saturating_sub(places.start);
-    'items: while left > 0 {
-        let Some(next) = past_character(haystack, meaning, character, past) else {
-            return past;
-        };
-        if next > places.end {
-            return past;
-        }
-        past = next;
-        left -= 1;
-        work.count_step_within();
-        work.count_step_within();
-    }
-    past
-}
-
-/// The place past the items that an instruction reads, one after another from the first of these places on. They end and count as those
-/// of [`past_members`] do.
+/// The place past the items that an instruction reads, as [`past_items`] goes past them. The loop is made for each kind of item.
 #[inline(always)]
 fn past_run(
     code: &Code,
@@ -307,10 +298,12 @@ fn past_run(
     }
     match code.instr(item) {
         Instr::Character(character, _) => {
-            past_copies(haystack, code.meaning, *character, places, work)
+            let item = Item::Character(*character);
+            past_items(haystack, code.meaning, item, places, work)
         }
         Instr::Member(set, _) => {
-            past_members(haystack, code.meaning, code.set(*set), places, work)
+            let item = Item::Member(code.set(*set));
+            past_items(haystack, code.meaning, item, places, work)
         }
         _ => places.start,
     }

@@ -9,7 +9,7 @@ use Rattle.fancy_search.specs.Programs.{asked_of, program_step_limit}
 use Rattle.fancy_search.specs.declared.straight.StraightEnd.TheVariants.{AtMatch}
 use Rattle.fancy_search.specs.SearchCounts.{step_bound}
 use Rattle.fancy_search.proofs.KeptTablesLemmas.{begins_at}
-use Rattle.fancy_search.proofs.StraightLemmas.{as_found, no_round, some_code, straight_at}
+use Rattle.fancy_search.proofs.StraightLemmas.{no_loop, some_code, straight_at}
 use Rattle.fancy_search.proofs.program.Program.read_straight.Goals as goal
 
 pub past_straight-past-requires : goal.past_straight-past-requires
@@ -20,9 +20,9 @@ returns-clause-answer c =
     let asked = c.args.asked.now in
     let q = asked_of c.args.self.now asked.haystack.now asked.request.now asked.continues in
     let here = straight_at c.args.self.now asked.haystack.now asked.request.now asked.continues c.args.position c.past_straight-past.result asked.inside c.requires.tries.to (sym c.args.self.now.decided ∙ c.if-not-self.false)
-    AtMatch (c.args.self.now.direct AtMatch (c.in-Some.is ∙ ap Some (c.is_match.ensures c.if-not-is_match.false))) (λ item round. absurd (no_round item round))
+    AtMatch (c.args.self.now.direct AtMatch (c.in-Some.is ∙ ap Some (c.is_match.ensures c.if-not-is_match.false))) (λ item round. absurd (no_loop item round))
     c.suppressed_ends-suppressed.result (c.suppressed_ends-suppressed.ensures ∙ ap (λ (o : SearchOptions). suppressed_ends o.overrides asked.request.now) c.args.self.now.handed) c.past_straight-past.ensures.read in
-    c.match_to.ensures asked.request.now asked.continues refl ∙ sym (here ∙ as_found q c.args.position c.past_straight-past.result)
+    c.match_to.ensures asked.request.now asked.continues refl ∙ sym here
 
 pub returns-clause-within : goal.returns-clause-within
 returns-clause-within c =
