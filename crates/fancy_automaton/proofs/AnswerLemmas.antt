@@ -2,6 +2,7 @@
 use Rattle.std.proofs.Common.{◌≡◌, ℕ, zero, suc, ◌+◌, ◌<◌, ◌≤◌, Bool, true, false, List, [], ◌∷◌, length, Option, Some, None, refl, sym, ap, ap₂, ◌∙◌, subst, arith, replicate}
 use Rattle.std.specs.Prelude.{slice_index, option_map, is_some, if◌then◌else◌}
 use Rattle.std.specs.Option.{option_or}
+use Rattle.std.proofs.lemmas.Option.{none-some}
 use Rattle.fancy_input.specs.declared.span.Span.{Span}
 use Rattle.fancy_code.specs.declared.code.Code.{Code}
 use Rattle.fancy_code.specs.Code.{instrs_of}
@@ -9,18 +10,16 @@ use Rattle.fancy_meaning.specs.Context.{Context, State}
 use Rattle.fancy_code.specs.Compile.{IsCodeOf, AreEasy}
 use Rattle.fancy_code.specs.Run.{Raw, Note, Stop, Sign, choice_opened, returned, fetched, erase}
 use Rattle.fancy_code.specs.Thread.{IsKnown, thread_run, events_of, first_accepted, ends_well, pair_run}
-use Rattle.fancy_meaning.specs.Search.{Query, Answer, context_of, is_match_boundary, answer_at, answer_from, search}
+use Rattle.fancy_meaning.specs.Search.{Query, Answer, context_of, is_match_boundary, answer_at, answer_from, attempt, search}
 use Rattle.fancy_code.specs.Queries.{answer_with}
 use Rattle.fancy_code.specs.Thread.{empty_slot, slot_span, state_of, starts_of}
 use Rattle.fancy_code.proofs.EasyCode.{Alike, BothAlike, run_both}
 use Rattle.fancy_code.proofs.EasyContinues.{continued_at}
 use Rattle.fancy_code.proofs.ThreadLemmas.{map-replicate}
-use Rattle.fancy_prefilter.specs.Seen.{MayNotStart}
-use Rattle.fancy_code.proofs.StartLemmas.{none_starts}
-use Rattle.fancy_bytes.specs.Firsts.{AreStartBytes}
-use Rattle.fancy_tree.specs.declared.tree.Meaning.{Meaning}
+use Rattle.fancy_prefilter.specs.NextOpening.{StartsNot}
+use Rattle.fancy_code.proofs.PassedLemmas.{openings_passed}
 use Rattle.fancy_code.proofs.PositionLemmas.{first_thread, deep, attempt_known, attempt_answer, search_skip}
-use Rattle.fancy_meaning.proofs.AttemptLemmas.{search_hit, search_miss, search_over}
+use Rattle.fancy_meaning.proofs.AttemptLemmas.{one_position, search_hit, search_miss, search_over}
 use Rattle.fancy_states.specs.Ways.{tagged}
 use Rattle.fancy_states.specs.Futures.{ArePlain, place_of, end_at, leftmost}
 use Rattle.fancy_states.specs.Search.{Begun, ends_in, ends_of, at_position}
@@ -120,12 +119,18 @@ module _ (q : Query) (code : Code) (is : IsCodeOf q.sought.pattern code) (groups
       sym (both_place (ends_well Good) (λ s r e. ap Good e) _ _ (alike p))
       ∙ ap (option_map place_of) (answer_is p le may)
 
-  -- nothing is found where no match may start
+  -- nothing is found where no match starts
+  none_here : (p : ℕ) (o : Option State) → answer_at q p ≡ o → attempt q p ≡ None → answer_at q p ≡ None
+  none_here p None e none = e
+  none_here p (Some s) e none = absurd (none-some _ (sym none ∙ ap (option_map (λ (t : State). record { position = p; state = t })) e))
+
   pub starts_none : ((k : ℕ) → slice_index q.haystack k < 256) → (p : ℕ) → p ≤ q.request.range_end → Good p ≡ true
-      → MayNotStart code.prefilter.starts q.haystack q.request.range_end p → end_at Good x q.request.range_end (instrs_of code) Deep p code.start ≡ None
+      → StartsNot code.prefilter q.haystack q.request.range_end p → end_at Good x q.request.range_end (instrs_of code) Deep p code.start ≡ None
   starts_none bytes p le may never =
-      end_is p le may
-      ∙ ap (option_map place_of) (none_starts q code.prefilter.starts (subst (λ (m : Meaning). AreStartBytes m q.sought.pattern code.prefilter.starts) (sym meant) is.starts) bytes p never)
+      let alone : (k : ℕ) → p ≤ k → k < p + 1 → StartsNot code.prefilter q.haystack q.request.range_end k =
+      λ k low high. subst (StartsNot code.prefilter q.haystack q.request.range_end) (omega (arith, low, high)) never in
+      let none = openings_passed q code is meant inside bytes 1 0 p (p + 1) (omega arith) (omega (arith, le)) (omega arith) alone in
+      end_is p le may ∙ ap (option_map place_of) (none_here p (answer_at q p) refl (sym (one_position q 1 p refl) ∙ none ∙ search_over q 0 (p + 1) refl))
 
   -- no group takes part in a match, which starts at its position
   whole_at : (p : ℕ) (s : State) → p ≤ q.request.range_end → Good p ≡ true → answer_at q p ≡ Some s → IsUntouched (replicate code.groups None) p s

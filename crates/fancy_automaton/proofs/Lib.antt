@@ -1,5 +1,6 @@
 pub mod AnswerLemmas
 pub mod GoingLemmas
+pub mod PlaceLemmas
 pub mod SteadyLemmas
 pub mod FrontLemmas
 pub mod HopLemmas

@@ -2,3 +2,4 @@ pub mod Told
 pub mod Front
 pub mod Sole
 pub mod Decided
+pub mod Places

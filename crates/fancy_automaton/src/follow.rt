@@ -2,9 +2,9 @@
 
 ghost use Rattle.std.specs.Prelude.{◌≡◌, ◌+◌, ◌<◌, ◌≤◌, [], ℕ, None, IfSome, is_some, length, option_map, true};
 ghost use Rattle.fancy_code.specs.Attempt.{may_end_in};
-ghost use Rattle.fancy_prefilter.specs.Seen.{MayStart};
 ghost use Rattle.fancy_states.specs.Cells.{HasRows, HoldsFor, IsIdle, ways_at};
-ghost use Rattle.fancy_states.specs.Search.{Going, IsFollowed, Passes};
+ghost use Rattle.fancy_states.specs.Search.{Going, IsFollowed};
+ghost use Rattle.fancy_automaton.specs.Places.{IsNextPlace};
 ghost use Rattle.fancy_automaton.specs.Sole.{IsAmid, IsSole, Reaches, came_to};
 ghost use Rattle.fancy_automaton.specs.Decided.{Goal, IsDecided, IsPlaced, Opens};
 
@@ -12,7 +12,7 @@ use crate::hop::{Stand, ahead_of, idle_row, row_start, stand_after};
 use crate::told::told_at;
 use fancy_code::attempt::Attempt;
 use fancy_meaning::options::is_match_boundary;
-use fancy_prefilter::candidates::next_candidate;
+use fancy_prefilter::candidates::{next_candidate, next_opening};
 use fancy_states::cells::Cells;
 use fancy_states::origin::Origin;
 use fancy_states::rows::Target;
@@ -66,17 +66,12 @@ impl Sole {
     }
 }
 
-/// The first place, from one on, at which a match may begin; past the last one where there is none.
+/// The first place, from one on, at which a match may begin by the byte there; past the last one where there is none.
 #[inline(always)]
-pub(crate) fn next_place(attempt: &Attempt, from: usize) -> usize
+fn next_place(attempt: &Attempt, from: usize) -> usize
     requires ordered { from ≤ attempt.now.last + 1 }
     requires inside { attempt.now.last ≤ length attempt.now.haystack.now }
-    ensures forth { from ≤ result }
-    ensures ends { result ≤ attempt.now.last + 1 }
-    ensures passed { (k : ℕ) → from ≤ k → k < result → Passes attempt.now k }
-    ensures good { result ≤ attempt.now.last → may_end_in attempt.now result ≡ true }
-    ensures stands { result ≤ attempt.now.last → MayStart attempt.now.code.now.prefilter.starts
-        attempt.now.haystack.now attempt.now.last result }
+    ensures { IsNextPlace attempt.now from result }
 {
     let last = attempt.last;
     let mut place = from;
@@ -88,6 +83,48 @@ pub(crate) fn next_place(attempt: &Attempt, from: usize) -> usize
         place += 1;
     }
     place
+}
+
+/// The same by all that tells where matches may begin. `region` is kept from call to call, as `next_opening` keeps it.
+#[inline(never)]
+fn next_opened(attempt: &Attempt, from: usize, region: &mut Option<usize>) -> usize
+    requires ordered { from ≤ attempt.now.last + 1 }
+    requires inside { attempt.now.last ≤ length attempt.now.haystack.now }
+    ensures { IsNextPlace attempt.now from result }
+{
+    let last = attempt.last;
+    let mut place = from;
+    'places: while place <= last {
+        let (prefilter, haystack) = (&attempt.code.prefilter, attempt.haystack);
+        place = next_opening(prefilter, haystack, last, place, last, region);
+        if place > last || is_match_boundary(attempt.on_boundaries, haystack, place) {
+            return place;
+        }
+        place += 1;
+    }
+    place
+}
+
+/// Whether what matches open with is scanned for between them. Bytes past ASCII do not tell words apart.
+#[inline(always)]
+fn scans(attempt: &Attempt) -> bool {
+    let prefilter = &attempt.code.prefilter;
+    prefilter.scans_for_opening() && !prefilter.has_words()
+}
+
+/// The first place, from one on, at which a match may begin, by what matches open with where that is scanned for, and else by the byte
+/// there; past the last one where there is none.
+#[inline(always)]
+pub(crate) fn next_start(attempt: &Attempt, from: usize, region: &mut Option<usize>) -> usize
+    requires ordered { from ≤ attempt.now.last + 1 }
+    requires inside { attempt.now.last ≤ length attempt.now.haystack.now }
+    ensures { IsNextPlace attempt.now from result }
+{
+    if scans(attempt) {
+        next_opened(attempt, from, region)
+    } else {
+        next_place(attempt, from)
+    }
 }
 
 /// Where a search stands at a place, a byte offset, after the last step that it took, if it took one.
@@ -314,8 +351,9 @@ pub(crate) fn lengthen(attempt: &Attempt, cells: &Cells, from: Sole, any: bool) 
     }
 }
 
-/// Takes steps that the table tells on ASCII characters, as long as all ways that wait began at one place. The loops need fewer
-/// registers so than on all characters.
+/// Takes steps that the table tells on ASCII characters, as long as all ways that wait began at one place. It ends where no way waits
+/// and what matches open with is to be scanned for: a loop with that scan in it takes longer. On all characters the loops need more
+/// registers.
 #[inline(never)]
 pub(crate) fn follow(attempt: &Attempt, cells: &Cells, from: Sole) -> Sole
     requires sole { IsSole attempt.now cells.now from }
@@ -325,6 +363,9 @@ pub(crate) fn follow(attempt: &Attempt, cells: &Cells, from: Sole) -> Sole
     let mut at = from;
     'places: while at.end.is_none() {
         at = seek(attempt, cells, at, idle, false);
+        if at.stand.next == idle && scans(attempt) {
+            return at;
+        }
         match past(attempt, cells, at, idle, false) {
             None => return at,
             Some(next) => at = next,
@@ -346,6 +387,9 @@ pub(crate) fn follow_any(attempt: &Attempt, cells: &Cells, from: Sole) -> Sole
     let mut at = from;
     'places: while at.end.is_none() {
         at = seek(attempt, cells, at, idle, true);
+        if at.stand.next == idle && scans(attempt) {
+            return at;
+        }
         match past(attempt, cells, at, idle, true) {
             None => return at,
             Some(next) => at = next,

@@ -13,7 +13,7 @@ ghost use Rattle.fancy_automaton.specs.Sole.{IsSole};
 ghost use Rattle.fancy_alphabet.specs.Units.{place_after};
 ghost use Rattle.fancy_states.specs.Counts.{AddsSteps};
 
-use crate::follow::{Sole, follow, follow_any, next_place};
+use crate::follow::{Sole, follow, follow_any, next_start};
 use crate::hop::{Stand, row_start, run};
 use crate::told::is_wide_at;
 use fancy_alphabet::sight::{Sight, ascii_at};
@@ -353,9 +353,15 @@ impl Front {
         !is_told(cells, self.begun, before, byte)
     }
 
-    /// The next place that is to be passed, from one on: where no way waits, one where a match may start by its first byte, or
-    /// past the last place where none may. One is passed too at which the step of the way that begins is not remembered.
-    pub fn seek(&self, attempt: &Attempt, cells: &Cells, place: usize) -> usize
+    /// The next place that is to be passed, from one on: where no way waits, one where a match may start, or past the last place where
+    /// none may. One is passed too at which the step of the way that begins is not remembered.
+    pub fn seek(
+        &self,
+        attempt: &Attempt,
+        cells: &Cells,
+        place: usize,
+        region: &mut Option<usize>,
+    ) -> usize
         requires within { place ≤ attempt.now.last + 1 }
         requires front { IsFront attempt.now cells.now self.now place place }
         ensures front { IsFront attempt.now cells.now self.now result result }
@@ -369,7 +375,7 @@ impl Front {
         if self.learns(attempt, cells, place) {
             return place;
         }
-        next_place(attempt, place)
+        next_start(attempt, place, region)
     }
 }
 

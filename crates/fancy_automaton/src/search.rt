@@ -17,7 +17,7 @@ ghost use Rattle.fancy_states.specs.Counts.{AddsSteps};
 ghost use Rattle.fancy_automaton.specs.Sole.{IsSole};
 
 use crate::anchored::{span_at, span_told};
-use crate::follow::{Sole, follow, follow_any, next_place};
+use crate::follow::{Sole, follow, follow_any, next_start};
 use crate::front::Front;
 use crate::told::is_wide_at;
 use fancy_code::attempt::Attempt;
@@ -39,6 +39,7 @@ fn trace(
     attempt: &Attempt,
     cells: &mut Cells,
     from: Sole,
+    region: &mut Option<usize>,
     work: &mut Work,
 ) -> Result<Option<Span>, AllocError>
     requires sole { IsSole attempt.now cells.old from }
@@ -56,7 +57,7 @@ fn trace(
         if front.is_over(cells) {
             return Ok(front.end(cells, place));
         }
-        place = front.seek(attempt, cells, place);
+        place = front.seek(attempt, cells, place, region);
         if place > attempt.last {
             return Ok(front.end(cells, place));
         }
@@ -85,12 +86,13 @@ fn find_span(
         attempt.now.last attempt.now.base (attempt.now.last + 1)
         → steps_of work.new ≡ steps_of work.old }
 {
-    let origin = origin(attempt.code, cells)?;
-    let place = next_place(attempt, attempt.base);
+    let mut region = None;
+    let place = next_start(attempt, attempt.base, &mut region);
     if place > attempt.last {
         cells.reached = place;
         return Ok(None);
     }
+    let origin = origin(attempt.code, cells)?;
     let mut to = Sole::new(attempt, cells, origin, place);
     if !is_wide_at(attempt, place) {
         to = follow(attempt, cells, to);
@@ -102,7 +104,7 @@ fn find_span(
         cells.reached = to.stand.place;
         return Ok(span_from(to.start, to.end));
     }
-    let found = trace(attempt, cells, to, work)?;
+    let found = trace(attempt, cells, to, &mut region, work)?;
     Ok(found)
 }
 

@@ -10,7 +10,7 @@ use Rattle.fancy_code.specs.declared.found.Found.{Found}
 use Rattle.fancy_code.specs.declared.attempt.Attempt.{Attempt}
 use Rattle.fancy_code.specs.Attempt.{context_in, instrs_in, may_end_in}
 use Rattle.fancy_meaning.specs.Search.{Answer}
-use Rattle.fancy_prefilter.specs.Seen.{MayNotStart}
+use Rattle.fancy_prefilter.specs.NextOpening.{StartsNot}
 use Rattle.fancy_states.specs.Ways.{AllKnown}
 use Rattle.fancy_states.specs.Futures.{ArePlain, end_at, known_at, leftmost}
 use Rattle.fancy_states.specs.Steps.{waiting, first_tagged_end}
@@ -40,15 +40,15 @@ abbrev pub begun_if : Option Span → List ℕ → ℕ → List ℕ
 begun_if None xs y = xs ++ y ∷ []
 begun_if (Some s) xs y = xs
 
--- no match may begin there, by the bytes that matches start at, or since matches begin elsewhere
+-- no match begins there, by what tells where they may, or since matches begin elsewhere
 abbrev pub Passes : Attempt → ℕ → Type 0
-Passes a k = (may_end_in a k ≡ false) ⊎ MayNotStart a.code.now.prefilter.starts a.haystack.now a.last k
+Passes a k = (may_end_in a k ≡ false) ⊎ StartsNot a.code.now.prefilter a.haystack.now a.last k
 
 module _ (a : Attempt) (deep : ℕ) where
-  -- what the code gives from each start is known, and nothing where no match may begin
+  -- what the code gives from each start is known, and nothing where it is told that no match begins
   pub record BegunIn : Type 0 where
     pub known : Begun (may_end_in a) (context_in a) a.last (instrs_in a) deep a.code.now.start
-    pub starts : (k : ℕ) → k ≤ a.last → may_end_in a k ≡ true → MayNotStart a.code.now.prefilter.starts a.haystack.now a.last k
+    pub starts : (k : ℕ) → k ≤ a.last → may_end_in a k ≡ true → StartsNot a.code.now.prefilter a.haystack.now a.last k
         → end_at (may_end_in a) (context_in a) a.last (instrs_in a) deep k a.code.now.start ≡ None
 
   abbrev pub leftmost_in : ℕ → ℕ → Option (ℕ × ℕ)

@@ -4,7 +4,6 @@ use Rattle.fancy_states.specs.Search.{ends_in}
 use Rattle.fancy_states.specs.Trail.{match_from}
 use Rattle.fancy_code.specs.CodeLength.{code_len}
 use Rattle.fancy_states.proofs.CellLemmas.{row_ways, row_within}
-use Rattle.fancy_prefilter.proofs.NextLemmas.{starts_somewhere}
 use Rattle.fancy_automaton.proofs.GoingLemmas.{going_end, going_first, going_idle, going_over}
 use Rattle.fancy_states.proofs.CountLemmas.{counts_from}
 use Rattle.fancy_automaton.specs.Sole.{Reaches}
@@ -18,12 +17,12 @@ match_found start (Some end) some = refl
 pub new-to-requires : goal.new-to-requires
 new-to-requires c =
     let a = c.args.attempt.now in
-    let place = c.next_place-place.ensures in
+    let place = c.next_start-place.ensures in
     record {
       followed = c.requires.followed;
       kept = c.origin.ensures.kept;
       rows = c.in_ok-origin.ensures.rows;
-      going = going_idle a [] [] None a.base c.next_place-place.result place.forth place.ends refl place.passed (going_first a [] [] None refl refl refl);
+      going = going_idle a [] [] None a.base c.next_start-place.result place.forth place.ends refl place.passed (going_first a [] [] None refl refl refl);
       good = place.good (omega (arith, c.if-place-attempt.false));
       within = omega (arith, c.if-place-attempt.false);
     }
@@ -85,14 +84,14 @@ trace-requires c =
 pub returns-then-place-attempt-clause-answer : goal.returns-then-place-attempt-clause-answer
 returns-then-place-attempt-clause-answer c deep begun =
     let a = c.args.attempt.now in
-    let place = c.next_place-place.ensures in
-    going_end a [] [] None c.next_place-place.result deep c.if-place-attempt.true place.ends begun
-    (going_idle a [] [] None a.base c.next_place-place.result place.forth place.ends refl place.passed (going_first a [] [] None refl refl refl))
+    let place = c.next_start-place.ensures in
+    going_end a [] [] None c.next_start-place.result deep c.if-place-attempt.true place.ends begun
+    (going_idle a [] [] None a.base c.next_start-place.result place.forth place.ends refl place.passed (going_first a [] [] None refl refl refl))
 
 pub returns-then-place-attempt-clause-kept : goal.returns-then-place-attempt-clause-kept
 returns-then-place-attempt-clause-kept c = record {
-  bounded = record { rows = c.origin.ensures.kept.bounded.rows; cells = c.origin.ensures.kept.bounded.cells; told = c.origin.ensures.kept.bounded.told };
-  all = c.origin.ensures.kept.all;
+  bounded = record { rows = c.requires.kept.bounded.rows; cells = c.requires.kept.bounded.cells; told = c.requires.kept.bounded.told };
+  all = c.requires.kept.all;
 }
 
 pub returns-then-is_over-clause-answer : goal.returns-then-is_over-clause-answer
@@ -136,7 +135,7 @@ returns-clause-counts c =
       | else-is_wide_at w ↦ subst (Reaches a cells p) (sym w.to-is) one
     ] in
     counts_from (code_len a.code.now) a.base c.if-is_wide_at.to.stand.place (a.last + 1)
-    (omega (arith, c.next_place-place.ensures.forth, c.new-to.ensures.place, two.forth)) c.trace.ensures.counts
+    (omega (arith, c.next_start-place.ensures.forth, c.new-to.ensures.place, two.forth)) c.trace.ensures.counts
 
 pub returns-in_err-found-clause-counts : goal.returns-in_err-found-clause-counts
 returns-in_err-found-clause-counts c =
@@ -153,14 +152,10 @@ returns-in_err-found-clause-counts c =
       | else-is_wide_at w ↦ subst (Reaches a cells p) (sym w.to-is) one
     ] in
     counts_from (code_len a.code.now) a.base c.if-is_wide_at.to.stand.place (a.last + 1)
-    (omega (arith, c.next_place-place.ensures.forth, c.new-to.ensures.place, two.forth)) c.trace.ensures.counts
+    (omega (arith, c.next_start-place.ensures.forth, c.new-to.ensures.place, two.forth)) c.trace.ensures.counts
 
 pub returns-clause-idle : goal.returns-clause-idle
-returns-clause-idle c none =
-    absurd (starts_somewhere c.args.attempt.now.code.now.prefilter.starts c.args.attempt.now.haystack.now c.args.attempt.now.last c.next_place-place.result
-    (c.next_place-place.ensures.stands (omega (arith, c.if-place-attempt.false))) (none c.next_place-place.result c.next_place-place.ensures.forth (omega (arith, c.if-place-attempt.false))))
+returns-clause-idle c none = absurd (c.next_start-place.ensures.some (omega (arith, c.if-place-attempt.false)) none)
 
 pub returns-in_err-found-clause-idle : goal.returns-in_err-found-clause-idle
-returns-in_err-found-clause-idle c none =
-    absurd (starts_somewhere c.args.attempt.now.code.now.prefilter.starts c.args.attempt.now.haystack.now c.args.attempt.now.last c.next_place-place.result
-    (c.next_place-place.ensures.stands (omega (arith, c.if-place-attempt.false))) (none c.next_place-place.result c.next_place-place.ensures.forth (omega (arith, c.if-place-attempt.false))))
+returns-in_err-found-clause-idle c none = absurd (c.next_start-place.ensures.some (omega (arith, c.if-place-attempt.false)) none)

@@ -17,14 +17,14 @@ pub returns-clause-front : goal.returns-clause-front
 returns-clause-front c =
     let f = c.args.self.now in
     let is = c.requires.front in
-    let next = c.next_place.ensures in
+    let next = c.next_start.ensures in
     record {
       followed = is.followed;
       kept = is.kept;
       all = is.all;
       waits = is.waits;
       opens = is.opens;
-      going = going_idle c.args.attempt.now _ _ _ c.args.place c.next_place.result next.forth next.ends
+      going = going_idle c.args.attempt.now _ _ _ c.args.place c.next_start.result next.forth next.ends
           (no_items (starts_of c.args.cells.now f) (is.going.even ∙ ap length (c.has_waiting.ensures.none c.if-has_waiting.false))) next.passed is.going;
       visits = is.visits;
       hits = is.hits;
