@@ -20,6 +20,9 @@ const SHORT_OTHER: usize = 32_768;
 /// The same of code that opens with many branches, for each of which the runner takes some instructions at each position.
 const SHORT_WIDE: usize = 256;
 
+/// The same of code whose matches open with what is scanned for: the runner may make so few attempts that computed steps are not worth it.
+const SHORT_SCANNED: usize = 131_072;
+
 /// A set with that many ASCII characters is wide, as `[a-z]` is.
 const WIDE_SET: usize = 26;
 
@@ -85,11 +88,29 @@ fn starts_differ(prefilter: &Prefilter) -> bool {
     }
 }
 
-/// Whether a scan tells little of where matches begin: no text, no window and no words that they open with, and they may start
-/// with different bytes. Where it tells more, the runner makes few attempts, unless these are long.
-fn is_told_little(code: &Code) -> bool {
-    let prefilter = &code.prefilter;
-    !prefilter.scans_for_opening() && (starts_differ(prefilter) || has_wide_loop(code))
+/// Whether some match may start with an ASCII character.
+fn starts_in_ascii(prefilter: &Prefilter) -> bool {
+    let Some(scan) = &prefilter.starts else {
+        return true;
+    };
+    for byte in 0..0x80u32 {
+        if scan.contains(byte as u8) {
+            return true;
+        }
+    }
+    false
+}
+
+/// Whether each match opens with one of many words that a table tells apart: it tells all bytes past ASCII from the others, and not from
+/// one another.
+fn tells_words(prefilter: &Prefilter) -> bool {
+    prefilter.has_words() && starts_in_ascii(prefilter)
+}
+
+/// Whether a scan tells little of where matches begin: no text and no window that they open with, and they may start with different
+/// bytes.
+fn is_told_little(prefilter: &Prefilter) -> bool {
+    (prefilter.has_words() || !prefilter.scans_for_opening()) && starts_differ(prefilter)
 }
 
 /// Whether the code reads one item, and then matches. A test of the place alone may hold before any byte.
@@ -97,21 +118,34 @@ fn is_item(code: &Code) -> bool {
     code.prefilter.starts.is_some() && reads_one(code, code.start)
 }
 
-/// Whether searches with the code are worth the automaton's steps. Where the first bytes of the alternatives tell them apart, the
-/// runner tries those alone that may match, which takes less. One item, or a run of one, is read where it may stand.
+/// Whether searches with the code are worth the automaton's steps: where the runner would make many attempts, or long ones. Where a table
+/// tells words apart, the runner tries those alone that may match, which takes less. One item, or a run of one, is read where it may
+/// stand.
 pub(crate) fn is_worth_following(code: &Code) -> bool {
-    if code.prefilter.has_words() || is_item(code) || is_run(code) {
+    let prefilter = &code.prefilter;
+    if tells_words(prefilter) || is_item(code) || is_run(code) {
         return false;
     }
-    is_told_little(code) || opens_wide(code)
+    is_told_little(prefilter) || opens_wide(code) || has_wide_loop(code)
 }
 
 /// The fewest bytes that a search alone, or the first of a list, goes over where the automaton serves it.
 pub(crate) fn shortest_followed(code: &Code) -> Lengths {
-    let is_wide = opens_wide(code);
+    if opens_wide(code) {
+        return Lengths {
+            ascii: SHORT_WIDE,
+            any: SHORT_WIDE,
+        };
+    }
+    if code.prefilter.scans_for_opening() && !code.prefilter.has_words() {
+        return Lengths {
+            ascii: SHORT_SCANNED,
+            any: SHORT_SCANNED,
+        };
+    }
     Lengths {
-        ascii: if is_wide { SHORT_WIDE } else { SHORT },
-        any: if is_wide { SHORT_WIDE } else { SHORT_OTHER },
+        ascii: SHORT,
+        any: SHORT_OTHER,
     }
 }
 

@@ -71,8 +71,9 @@ const SHORT_HAYSTACK: usize = 256;
 /// A pattern that was read and compiled under options.
 ///
 /// Which engine serves its searches is decided once: the memoised runner an easy pattern, and the backtracking machine a
-/// hard one. An easy pattern whose code an automaton follows, and of whose matches little is told that a scan could go by, is served
-/// by that in a text that is not short. One whose code is straight needs no engine: its items are read where a match may begin.
+/// hard one. An easy pattern whose code an automaton follows is served by that in a text that is not short, where the runner would make
+/// many attempts or long ones. One whose code is straight needs no engine: its items are read where a match may begin, and those of a
+/// loop at its end after them.
 pub struct Program {
     options: Options,
     /// What an engine is told of them.
