@@ -319,6 +319,11 @@ def short_lines(count):
     return "\n".join(" ".join(r.choice(words) for _ in range(6))[:20].ljust(20, ".") for _ in range(count))
 
 
+def letter(size):
+    """A text whose first line has what is looked for."""
+    return cut("It was on March 12 that Ada Lovelace wrote.\n" + english(), size)
+
+
 def entries(count):
     """What people type into forms: one entry a line, right or not."""
     r = random.Random(88)
@@ -362,6 +367,8 @@ MAKERS = {
     "lines20f.txt": lambda: short_lines(3000),
     "lines20t.txt": lambda: short_lines(300),
     "entries.txt": lambda: entries(20000),
+    "letter.txt": lambda: letter(4 * KIB),
+    "letter2000.txt": lambda: letter(2000),
     "ab28.txt": lambda: "ab" * 28 + "ac",
     "ab4000.txt": lambda: "ab" * 4000 + "ac",
     "a28.txt": lambda: "a" * 28 + "!",

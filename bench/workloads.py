@@ -17,6 +17,7 @@ GROUPS = {
     "lexers": "lexers, as lists of tokens",
     "scripts": "text in several scripts",
     "short": "texts of some 20 bytes",
+    "documents": "a text of a few thousand bytes, of which one answer is asked, or a few matches",
     "held": "texts of some 20 bytes, in memory that the caller holds",
     "built-anew": "a pattern that is built anew for each line",
     "hard": "hard patterns",
