@@ -105,13 +105,6 @@ fn next_opened(attempt: &Attempt, from: usize, region: &mut Option<usize>) -> us
     place
 }
 
-/// Whether what matches open with is scanned for between them. Bytes past ASCII do not tell words apart.
-#[inline(always)]
-fn scans(attempt: &Attempt) -> bool {
-    let prefilter = &attempt.code.prefilter;
-    prefilter.scans_for_opening() && !prefilter.has_words()
-}
-
 /// The first place, from one on, at which a match may begin, by what matches open with where that is scanned for, and else by the byte
 /// there; past the last one where there is none.
 #[inline(always)]
@@ -120,7 +113,7 @@ pub(crate) fn next_start(attempt: &Attempt, from: usize, region: &mut Option<usi
     requires inside { attempt.now.last ≤ length attempt.now.haystack.now }
     ensures { IsNextPlace attempt.now from result }
 {
-    if scans(attempt) {
+    if attempt.code.prefilter.scans_for_opening() {
         next_opened(attempt, from, region)
     } else {
         next_place(attempt, from)
@@ -363,7 +356,7 @@ pub(crate) fn follow(attempt: &Attempt, cells: &Cells, from: Sole) -> Sole
     let mut at = from;
     'places: while at.end.is_none() {
         at = seek(attempt, cells, at, idle, false);
-        if at.stand.next == idle && scans(attempt) {
+        if at.stand.next == idle && attempt.code.prefilter.scans_for_opening() {
             return at;
         }
         match past(attempt, cells, at, idle, false) {
@@ -387,7 +380,7 @@ pub(crate) fn follow_any(attempt: &Attempt, cells: &Cells, from: Sole) -> Sole
     let mut at = from;
     'places: while at.end.is_none() {
         at = seek(attempt, cells, at, idle, true);
-        if at.stand.next == idle && scans(attempt) {
+        if at.stand.next == idle && attempt.code.prefilter.scans_for_opening() {
             return at;
         }
         match past(attempt, cells, at, idle, true) {

@@ -354,7 +354,8 @@ impl Front {
     }
 
     /// The next place that is to be passed, from one on: where no way waits, one where a match may start, or past the last place where
-    /// none may. One is passed too at which the step of the way that begins is not remembered.
+    /// none may. One is passed too at which the step of the way that begins is not remembered. `region` is kept from call to call, as
+    /// `next_opening` keeps it.
     pub fn seek(
         &self,
         attempt: &Attempt,

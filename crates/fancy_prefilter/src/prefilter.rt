@@ -155,9 +155,10 @@ impl Prefilter {
         matches!(self.opening, Opening::Text(_))
     }
 
-    /// Whether what each match opens with is scanned for.
+    /// Whether a text or a window that each match opens with is scanned for.
+    #[inline(always)]
     pub fn scans_for_opening(&self) -> bool {
-        !matches!(self.opening, Opening::Untold | Opening::Sets(_))
+        matches!(self.opening, Opening::Text(_) | Opening::Window(_))
     }
 
     /// Whether each match opens with one of many alternatives that are told.

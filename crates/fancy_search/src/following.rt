@@ -11,7 +11,7 @@ use fancy_prefilter::prefilter::Prefilter;
 use fancy_tree::char_set::CharSet;
 
 /// The shortest text of ASCII characters that the automaton serves, in bytes: its steps are computed first, which takes as long as
-/// the runner takes for some hundred bytes.
+/// the runner takes for some hundred to two thousand bytes.
 const SHORT: usize = 2048;
 
 /// The shortest text of others: a step is computed for each character past ASCII, and not for a class of them.
@@ -107,10 +107,9 @@ fn tells_words(prefilter: &Prefilter) -> bool {
     prefilter.has_words() && starts_in_ascii(prefilter)
 }
 
-/// Whether a scan tells little of where matches begin: no text and no window that they open with, and they may start with different
-/// bytes.
+/// Whether a scan tells little of where matches begin: none is made for what they open with, and they may start with different bytes.
 fn is_told_little(prefilter: &Prefilter) -> bool {
-    (prefilter.has_words() || !prefilter.scans_for_opening()) && starts_differ(prefilter)
+    !prefilter.scans_for_opening() && starts_differ(prefilter)
 }
 
 /// Whether the code reads one item, and then matches. A test of the place alone may hold before any byte.
@@ -137,7 +136,7 @@ pub(crate) fn shortest_followed(code: &Code) -> Lengths {
             any: SHORT_WIDE,
         };
     }
-    if code.prefilter.scans_for_opening() && !code.prefilter.has_words() {
+    if code.prefilter.scans_for_opening() {
         return Lengths {
             ascii: SHORT_SCANNED,
             any: SHORT_SCANNED,
@@ -153,7 +152,7 @@ pub(crate) fn shortest_followed(code: &Code) -> Lengths {
 const AHEAD: usize = 4096;
 
 /// Whether the runner leaps: from `first` up to `end`, byte offsets, it looks at fewer bytes than it passes over, as far as the first text
-/// tells that each match must have. The automaton goes on by first bytes alone.
+/// tells that each match must have. Where no opening is scanned for, the automaton goes on by first bytes alone.
 #[inline(never)]
 pub(crate) fn leaps(prefilter: &Prefilter, haystack: &[u8], first: usize, end: usize) -> bool
     requires inside { end ≤ length haystack.now }
