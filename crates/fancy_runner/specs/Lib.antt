@@ -12,3 +12,4 @@ pub mod Sweeps
 pub mod FirstItem
 pub mod Groups
 pub mod KeptTable
+pub mod Searched

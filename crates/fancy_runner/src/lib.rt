@@ -5,6 +5,7 @@ mod backlog;
 mod first_item;
 pub mod notes;
 pub mod pair;
+pub mod patience;
 pub mod refusal;
 mod row;
 pub mod runner;

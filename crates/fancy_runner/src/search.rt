@@ -1,23 +1,24 @@
 //! Searches by the runner: their time is bounded by the product of the code's length and the text's.
 
-ghost use Rattle.std.specs.Prelude.{◌≡◌, ◌+◌, ◌-◌, ◌^◌, ◌<◌, ◌≤◌, ℕ, Bool, false, [], Some, None, length, replicate, slice_index_or, IfOk, IfErr, IfSome, IfNone, OnOk, Err, ◌≢◌, ◌⊎◌};
+ghost use Rattle.std.specs.Prelude.{◌≡◌, ◌+◌, ◌-◌, ◌*◌, ◌^◌, ◌<◌, ◌≤◌, ℕ, Bool, false, true, [], Some, None, is_some, length, replicate, slice_index_or, IfOk, IfErr, IfSome, IfNone, OnOk, Err, ◌≢◌, ◌⊎◌};
 ghost use Rattle.fancy_tree.specs.Pattern.{Pattern};
 ghost use Rattle.fancy_code.specs.Code.{instrs_of};
 ghost use Rattle.fancy_code.specs.CodeLength.{code_len};
 ghost use Rattle.fancy_runner.specs.Attempt.{bits_in, owed_in, AllFailedIn};
 ghost use Rattle.fancy_runner.specs.KeptTable.{IsKept, table_in, table_base, place_kept, past_tried, steps_from, steps_ahead, taken_again};
 ghost use Rattle.fancy_code.specs.Compile.{IsCodeOf, AreEasy};
-ghost use Rattle.fancy_meaning.specs.Search.{search};
 ghost use Rattle.fancy_input.specs.Requests.{effective_start};
 ghost use Rattle.fancy_prefilter.specs.Seen.{NoneMayStart};
-ghost use Rattle.fancy_code.specs.Queries.{query_of, unfiltered, answer_with, most_steps};
+ghost use Rattle.fancy_code.specs.Queries.{query_of, unfiltered, most_steps};
 ghost use Rattle.fancy_runner.specs.Groups.{groups_in};
 ghost use Rattle.fancy_runner.specs.Refusals.{IsRunnersRefusal};
+ghost use Rattle.fancy_runner.specs.Searched.{IsAnsweredBy, LeftOff};
 ghost use Rattle.fancy_input.specs.Work.{steps_of, returns_of, RunsWithin, IsSpent, HasWorkFor};
 
 use crate::first_item::pass_followed;
 pub use crate::notes::Cache;
 use crate::notes::KeptTable;
+use crate::patience::Patience;
 use crate::start::follow_start;
 use crate::table::Table;
 use fancy_code::attempt::Attempt;
@@ -102,10 +103,42 @@ pub struct Wanted {
     pub request: Request,
     /// What it may be, and what the search may take.
     pub options: SearchOptions,
+    /// How long it goes on before it leaves off between two positions, if it may.
+    pub patience: Option<Patience>,
+}
+
+/// What a search came to.
+#[derive(Clone, Copy)]
+pub struct Searched {
+    /// What was found.
+    pub found: Option<Found>,
+    /// Where nothing was found: no match starts before this place, a byte offset. It is past all positions that are tried, unless the
+    /// search left off there.
+    pub reached: usize,
+}
+
+/// Whether a search leaves off at a place, after so many steps: where its patience is over, and no more were taken than the code is long
+/// for each position before.
+#[inline(always)]
+fn leaves_off(code: &Code, wanted: &Wanted, steps: usize, place: usize) -> bool
+    ensures asked { result ≡ true → is_some wanted.now.patience ≡ true }
+    ensures paid { result ≡ true → steps
+        ≤ code_len code.now * (place - effective_start wanted.now.request) }
+{
+    let Some(patience) = wanted.patience else {
+        return false;
+    };
+    let request = wanted.request;
+    if !patience.is_over(steps, place, request.range_end) {
+        return false;
+    }
+    let passed = place.saturating_sub(request.effective_start());
+    steps <= code.len().saturating_mul(passed)
 }
 
 /// Searches a haystack for the pattern of the code. Found is the first outcome at the least position, from the
-/// effective start on, which has one; its groups then stand in `cache`. Easy code has no `\G`, so the answer is the
+/// effective start on, which has one; its groups then stand in `cache`. With a patience the search may leave off between two positions,
+/// once that is over: then what is asked is to be searched for from the place on that was reached. Easy code has no `\G`, so the answer is the
 /// same with it on and off. Of the options `on_boundaries` and `overrides` are heeded: what is found is the first
 /// match and may be empty, and returns have no limit.
 ///
@@ -124,6 +157,7 @@ pub struct Wanted {
 /// `SearchRefusal::Memory` where memory runs out, and `SearchRefusal::Steps` where more work is needed than `step_limit` of the
 /// options allows, with what was done before. So a search without a kept table is not refused where the limit allows the code's
 /// length for each position of the searched text, its end among them. Nothing is kept after a refusal.
+#[inline(always)]
 pub fn search(
     code: &Code,
     haystack: &[u8],
@@ -131,21 +165,26 @@ pub fn search(
     kept: &mut Option<KeptTable>,
     cache: &mut Cache,
     work: &mut Work,
-) -> Result<Option<Found>, SearchRefusal>
+) -> Result<Searched, SearchRefusal>
     requires inside { wanted.request.range_end ≤ length haystack.now }
     requires easy { AreEasy (instrs_of code.now) }
     requires kept { IfSome kept.old (λ k. IsKept code.now haystack.now wanted.request wanted.options
         k (effective_start wanted.request) cache.old.notes) }
-    ensures answer { IfOk result (λ found. (p : Pattern) (on : Bool) → IsCodeOf p code.now
-        → answer_with (groups_in cache.new) found
-        ≡ search (query_of p code.now (unfiltered wanted.options) haystack.now wanted.request on)) }
-    ensures here { IfOk result (λ found. IfSome found (λ f. f.start ≡ f.position)) }
-    ensures ordered { IfOk result (λ found. IfSome found
+    ensures answer { IfOk result (λ s. (p : Pattern) (on : Bool) → IsCodeOf p code.now
+        → IsAnsweredBy (query_of p code.now (unfiltered wanted.options) haystack.now
+        wanted.request on) (groups_in cache.new) s) }
+    ensures here { IfOk result (λ s. IfSome s.found (λ f. f.start ≡ f.position)) }
+    ensures ordered { IfOk result (λ s. IfSome s.found
         (λ f. effective_start wanted.request ≤ f.end)) }
-    ensures kept { IfOk result (λ found. IfSome kept.new
+    ensures forth { IfOk result (λ s. effective_start wanted.request ≤ s.reached) }
+    ensures ended { wanted.patience ≡ None → IfOk result (λ s. IfNone s.found
+        (past_tried wanted.request ≤ s.reached)) }
+    ensures left_off { IfOk result (λ s. IfNone s.found (s.reached < past_tried wanted.request
+        → LeftOff code.now haystack.now wanted.request s.reached work.old work.new)) }
+    ensures kept { IfOk result (λ s. IfSome kept.new
         (λ k. IsKept code.now haystack.now wanted.request wanted.options
-        k (place_kept found wanted.request) cache.new.notes)) }
-    ensures left { IfOk result (λ found. IfSome found (λ f. kept.new
+        k (place_kept s.found wanted.request) cache.new.notes)) }
+    ensures left { IfOk result (λ s. IfSome s.found (λ f. kept.new
         ≡ Some (record { base = table_base kept.old wanted.request; from = f.end + 1 }))) }
     ensures dropped { IfErr result (λ _. kept.new ≡ None) }
     ensures steps { steps_of work.old ≤ steps_of work.new }
@@ -153,14 +192,14 @@ pub fn search(
         + (steps_from kept.old code.now wanted.request (effective_start wanted.request)
         (table_in cache.old)
         + taken_again kept.old code.now (effective_start wanted.request)) }
-    ensures passed { IfOk result (λ found. IfNone found (steps_of work.new
+    ensures passed { IfOk result (λ s. IfNone s.found (steps_of work.new
         + steps_from kept.new code.now wanted.request (past_tried wanted.request)
         (table_in cache.new)
         ≤ steps_of work.old
         + (steps_from kept.old code.now wanted.request (effective_start wanted.request)
         (table_in cache.old)
         + taken_again kept.old code.now (effective_start wanted.request)))) }
-    ensures spent { IfOk result (λ found. IfSome found (λ f. steps_of work.new
+    ensures spent { IfOk result (λ s. IfSome s.found (λ f. steps_of work.new
         + steps_ahead code.now wanted.request (table_base kept.old wanted.request) f.end
         (table_in cache.new)
         ≤ steps_of work.old
@@ -181,17 +220,27 @@ pub fn search(
         (most_steps code.now wanted.request) work.old
         → result ≢ Err SearchRefusal.Steps }
 {
-    let Wanted { request, options } = wanted;
+    let Wanted {
+        request,
+        options,
+        patience: _,
+    } = wanted;
     let first = request.effective_start();
     if first > request.range_end {
-        return Ok(None);
+        return Ok(Searched {
+            found: None,
+            reached: first,
+        });
     }
     let last = request.last_position();
     let end = request.range_end;
     let mut region = None;
     let mut place = next_opening(&code.prefilter, haystack, end, first, last, &mut region);
     if place > last {
-        return Ok(None);
+        return Ok(Searched {
+            found: None,
+            reached: place,
+        });
     }
     let before = kept.take();
     let base = KeptTable::base(before, first);
@@ -206,21 +255,28 @@ pub fn search(
     };
     ready_table(&mut cache.notes.table, &attempt, first, before)?;
     ready_last_lines(&mut cache.notes.last_lines, haystack, before.is_some());
-    while place <= last {
+    let begun = work.steps();
+    while place <= last && !leaves_off(code, &wanted, work.steps() - begun, place) {
         if is_match_boundary(options.on_boundaries, haystack, place) {
             if let Some(end) = follow_start(&attempt, place, cache, work)? {
                 let from = end + 1;
                 *kept = Some(KeptTable { base, from });
-                return Ok(Some(Found {
-                    position: place,
-                    start: place,
-                    end,
-                }));
+                return Ok(Searched {
+                    found: Some(Found {
+                        position: place,
+                        start: place,
+                        end,
+                    }),
+                    reached: place,
+                });
             }
         }
         let from = pass_followed(&attempt, place + 1, last, &cache.notes.table);
         place = next_opening(&code.prefilter, haystack, end, from, last, &mut region);
     }
     *kept = Some(KeptTable { base, from: place });
-    Ok(None)
+    Ok(Searched {
+        found: None,
+        reached: place,
+    })
 }

@@ -23,9 +23,9 @@ use Rattle.fancy_search.specs.declared.cache.AttemptNotes.{AttemptNotes}
 use Rattle.fancy_search.specs.declared.cache.Cache.{Cache}
 use Rattle.fancy_search.specs.declared.program.Program.{Program}
 use Rattle.fancy_search.specs.declared.cache.Kept.{Kept}
-use Rattle.fancy_search.specs.declared.cache.Kept.TheVariants.{Nothing, Runner, Steps, Lines}
+use Rattle.fancy_search.specs.declared.cache.Kept.TheVariants.{Nothing, Runner, Begun, Steps, Lines}
 use Rattle.fancy_search.specs.Options.{search_options}
-use Rattle.fancy_search.specs.KeptTables.{KeepsTable, KeepsSteps, KeepsLines, KeepsNotes, HoldsSteps, IsKeptIn, KeepsOn, table_kept, keeps_no_table, kept_from}
+use Rattle.fancy_search.specs.KeptTables.{KeepsTable, KeepsSteps, KeepsLines, KeepsNotes, HoldsSteps, IsKeptIn, KeepsOn, table_kept, keeps_no_table, is_steps, kept_from}
 
 -- what is kept for a place is kept for a later one, whichever positions are tried
 pub kept_later : (code : Code) (haystack : List ℕ) (request : Request) (options : SearchOptions) (kept : KeptTable) (place later start : ℕ) (anchored : Bool) (notes : Notes) → place ≤ later
@@ -62,13 +62,14 @@ module _ (program : Program) (haystack : List ℕ) (cache : Cache) where
   found_table request None (Some f) is = ((λ base e. absurd (none-some base e)), (λ e. cc), (λ e. cc))
   found_table request (Some k) (Some f) is = keeps_table request k f.end is
 
-  pub found_steps : (request : Request) (kept : Kept) (m : Option Found) → keeps_no_table kept ≡ true → KeepsSteps program cache.steps.cells → IfSome m (λ f. IsKeptIn program haystack request kept f.end cache)
+  pub found_steps : (request : Request) (kept : Kept) (m : Option Found) → keeps_no_table kept ≡ true → (is_steps kept ≡ true → KeepsSteps program cache.steps.cells) → IfSome m (λ f. IsKeptIn program haystack request kept f.end cache)
   found_steps request kept None steps is = tt
   found_steps request Nothing (Some f) steps is = absurd (true≢false (sym steps))
   found_steps request (Runner None) (Some f) steps is = ((λ base e. absurd (none-some base e)), (λ e. cc), (λ e. cc))
   found_steps request (Runner (Some k)) (Some f) steps is = absurd (true≢false (sym steps))
   found_steps request Lines (Some f) steps is = absurd (true≢false (sym steps))
-  found_steps request Steps (Some f) steps is = ((λ base e. absurd (none-some base e)), (λ e. is), (λ e. cc))
+  found_steps request (Begun patience) (Some f) steps is = ((λ base e. absurd (none-some base e)), (λ e. cc), (λ e. cc))
+  found_steps request Steps (Some f) steps is = ((λ base e. absurd (none-some base e)), is, (λ e. cc))
 
   pub found_lines : (request : Request) (m : Option Found) → IfSome m (λ f. KeepsLines haystack cache) → IfSome m (λ f. IsKeptIn program haystack request Lines f.end cache)
   found_lines request None is = tt
@@ -157,6 +158,7 @@ noted_steps program haystack request place notes steps holds = rw (no_table note
   no_table Nothing e = refl
   no_table (Runner None) e = refl
   no_table (Runner (Some k)) e = absurd (true≢false (sym e))
+  no_table (Begun patience) e = refl
   no_table Steps e = refl
   no_table Lines e = refl
 

@@ -2,6 +2,7 @@ pub mod ReadingLemmas
 mod RefusalLemmas
 pub mod ResultLemmas
 pub mod SearchedLemmas
+pub mod LaterLemmas
 pub mod ProgramSizeLemmas
 pub mod CutLemmas
 pub mod RisingLemmas

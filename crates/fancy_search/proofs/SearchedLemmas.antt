@@ -140,21 +140,30 @@ pub found_by : (q : Query) (groups : List (Option Span)) (m : Option Found) → 
 found_by q groups None e = ap (option_map span_of) e
 found_by q groups (Some f) e = ap (option_map span_of) e
 
--- what serves a search for an easy pattern that is not hopeless serves one whose groups are not asked
+-- what serves a search for an easy pattern that is not hopeless serves one whose groups are not asked, whatever groups go with what it found
+pub served_some : (r : Program) (asked : Asked) → program_is_easy r ≡ true → is_hopeless r (query_in r asked) ≡ false
+    → (result : Result (Option Found) Error) (before after : Work)
+    → IfOk result (λ m. (groups : List (Option Span)) × (answer_with groups m ≡ search (query_in r asked))) → KeepsCounts r result before after
+    → (NoneTried (program_options r).seek (query_in r asked) → steps_of after ≡ steps_of before)
+    → IfErr result (RefusesEasy r) → ServesAlone r asked result before after
+served_some r asked easy hopeful result before after answer counts idle refused =
+    let q = query_in r asked in
+    record {
+      answer = if_ok _ _ (λ m is. found_by q is.0 m is.1) result answer;
+      stands = if_ok _ _ (λ m is. found_stands r asked is.0 m is.1) result answer;
+      counts = counts;
+      idle = λ none. idle (none_tried_in r q hopeful none);
+      none = λ none. if_ok _ _ (λ m is. none_tried r q is.0 hopeful none m is.1) result answer;
+      hard = λ hard. absurd (true≢false (sym easy ∙ hard));
+      refused = if_err _ _ (refuses_easy r q) result refused;
+      allowed = if_ok _ _ (λ _ _ hard. absurd (true≢false (sym easy ∙ hard))) result answer;
+    }
+
+-- the same with these groups
 pub served_easily : (r : Program) (asked : Asked) (groups : List (Option Span)) → program_is_easy r ≡ true → is_hopeless r (query_in r asked) ≡ false
     → (result : Result (Option Found) Error) (before after : Work)
     → IfOk result (λ m. answer_with groups m ≡ search (query_in r asked)) → KeepsCounts r result before after
     → (NoneTried (program_options r).seek (query_in r asked) → steps_of after ≡ steps_of before)
     → IfErr result (RefusesEasy r) → ServesAlone r asked result before after
 served_easily r asked groups easy hopeful result before after answer counts idle refused =
-    let q = query_in r asked in
-    record {
-      answer = if_ok _ _ (found_by q groups) result answer;
-      stands = if_ok _ _ (found_stands r asked groups) result answer;
-      counts = counts;
-      idle = λ none. idle (none_tried_in r q hopeful none);
-      none = λ none. if_ok _ _ (none_tried r q groups hopeful none) result answer;
-      hard = λ hard. absurd (true≢false (sym easy ∙ hard));
-      refused = if_err _ _ (refuses_easy r q) result refused;
-      allowed = if_ok _ _ (λ _ _ hard. absurd (true≢false (sym easy ∙ hard))) result answer;
-    }
+    served_some r asked easy hopeful result before after (if_ok _ _ (λ m is. (groups, is)) result answer) counts idle refused

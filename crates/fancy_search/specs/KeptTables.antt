@@ -22,7 +22,7 @@ use Rattle.fancy_search.specs.declared.cache.AttemptNotes.{AttemptNotes}
 use Rattle.fancy_search.specs.declared.cache.Cache.{Cache}
 use Rattle.fancy_search.specs.declared.cache.Kept.{Kept}
 use Rattle.fancy_search.specs.declared.cache.RememberedSteps.{RememberedSteps}
-use Rattle.fancy_search.specs.declared.cache.Kept.TheVariants.{Nothing, Runner, Steps, Lines}
+use Rattle.fancy_search.specs.declared.cache.Kept.TheVariants.{Nothing, Runner, Begun, Steps, Lines}
 use Rattle.fancy_search.specs.declared.program.Program.{Program}
 use Rattle.fancy_search.specs.declared.searcher.Searcher.{Searcher}
 use Rattle.fancy_search.specs.Options.{search_options}
@@ -32,6 +32,7 @@ use Rattle.fancy_search.specs.Programs.{program_length}
 abbrev pub is_steps : Kept → Bool
 is_steps Nothing = false
 is_steps (Runner kept) = false
+is_steps (Begun patience) = false
 is_steps Steps = true
 is_steps Lines = false
 
@@ -40,6 +41,7 @@ abbrev pub keeps_no_table : Kept → Bool
 keeps_no_table Nothing = false
 keeps_no_table (Runner None) = true
 keeps_no_table (Runner (Some k)) = false
+keeps_no_table (Begun patience) = true
 keeps_no_table Steps = true
 keeps_no_table Lines = false
 
@@ -52,6 +54,7 @@ KeepsTable program haystack request kept place runner = IsKept program.code hays
 abbrev pub table_kept : Kept → Option KeptTable
 table_kept Nothing = None
 table_kept (Runner kept) = kept
+table_kept (Begun patience) = None
 table_kept Steps = None
 table_kept Lines = None
 

@@ -6,6 +6,7 @@ pub mod Followed
 pub mod Programs
 pub mod Searching
 pub mod Cached
+pub mod Begun
 pub mod SearchCounts
 pub mod Refusals
 pub mod Served

@@ -6,13 +6,14 @@ ghost use Rattle.fancy_states.specs.Remembered.{Remembers};
 ghost use Rattle.fancy_code.specs.declared.code.Code.{Code};
 ghost use Rattle.fancy_input.specs.Work.{steps_of, returns_of, units_of};
 
-use crate::following::{Lengths, is_long_enough};
+use crate::following::{LONG, SHORT, WORTH};
 use crate::read_past::ReadPast;
 use fancy_bytes::lacking::KnownBytes;
 use fancy_input::span::Span;
 use fancy_input::work::Work;
 use fancy_machine::search as machine;
 use fancy_runner::notes::{KeptTable, Notes};
+use fancy_runner::patience::Patience;
 use fancy_runner::search as runner;
 use fancy_states::cells::Cells;
 use std::alloc::{AllocError, Global};
@@ -39,6 +40,8 @@ pub enum Kept {
     Nothing,
     /// The runner's table, if the runner left one. It serves the next search too.
     Runner(Option<KeptTable>),
+    /// Nothing, by the runner: it serves so long, and then the automaton.
+    Begun(Patience),
     /// The steps that the automaton remembers.
     Steps,
     /// What the machine read of the line ends that close the haystack.
@@ -58,27 +61,41 @@ impl Kept {
         }
     }
 
-    /// Whether a search from `first` up to `end`, byte offsets, is worth the automaton's steps: its text is not shorter than
-    /// `shortest`, or the steps of searches before are kept.
+    /// Whether a search from `first` up to `end`, byte offsets, may be worth the automaton's steps: it is a search alone, or the first
+    /// one, of a text that is not short, or the automaton is to serve after such a one.
     #[inline(always)]
-    pub(crate) fn is_worth_steps(
-        &self,
-        haystack: &[u8],
-        first: usize,
-        end: usize,
-        shortest: Lengths,
-    ) -> bool
-        ensures { result ≡ true → table_kept self.now ≡ None }
+    pub(crate) fn is_worth_steps(self, first: usize, end: usize) -> bool
+        ensures { result ≡ true → table_kept self ≡ None }
     {
-        if matches!(self, Kept::Steps) {
-            return true;
+        match self {
+            Kept::Nothing => end.saturating_sub(first) >= SHORT,
+            Kept::Begun(_) | Kept::Steps => true,
+            Kept::Runner(_) | Kept::Lines => false,
         }
-        matches!(self, Kept::Nothing) && is_long_enough(haystack, first, end, shortest)
     }
 
     /// Whether nothing is kept.
     pub(crate) fn is_nothing(self) -> bool {
         matches!(self, Kept::Nothing)
+    }
+
+    /// Whether steps are kept.
+    pub(crate) fn is_steps(self) -> bool {
+        matches!(self, Kept::Steps)
+    }
+
+    /// How long the runner serves before the automaton does, from a search on that goes from `first` up to `end`, byte offsets. `None`
+    /// where it does not.
+    pub(crate) fn patience(self, first: usize, end: usize) -> Option<Patience> {
+        match self {
+            Kept::Nothing if end.saturating_sub(first) <= LONG => Some(Patience {
+                steps: WORTH,
+                taken: 0,
+                first,
+            }),
+            Kept::Begun(patience) => Some(patience),
+            _ => None,
+        }
     }
 
     /// Whether it is kept what the machine read.

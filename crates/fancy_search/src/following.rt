@@ -10,33 +10,17 @@ use fancy_prefilter::candidates::next_opening;
 use fancy_prefilter::prefilter::Prefilter;
 use fancy_tree::char_set::CharSet;
 
-/// The shortest text of ASCII characters that the automaton serves, in bytes: its steps are computed first, which takes as long as
-/// the runner takes for some hundred to two thousand bytes.
-const SHORT: usize = 2048;
+/// The automaton's first steps take about as long as so many of the runner.
+pub(crate) const WORTH: usize = 512;
 
-/// The shortest text of others: a step is computed for each character past ASCII, and not for a class of them.
-const SHORT_OTHER: usize = 32_768;
+/// In a text of fewer bytes the runner serves alone.
+pub(crate) const SHORT: usize = 256;
 
-/// The same of code that opens with many branches, for each of which the runner takes some instructions at each position.
-const SHORT_WIDE: usize = 256;
-
-/// The same of code whose matches open with what is scanned for: the runner may make so few attempts that computed steps are not worth it.
-const SHORT_SCANNED: usize = 131_072;
+/// In a text of more bytes the runner does not begin: it would ask for a table of all of them.
+pub(crate) const LONG: usize = 16_777_216;
 
 /// A set with that many ASCII characters is wide, as `[a-z]` is.
 const WIDE_SET: usize = 26;
-
-/// At how many places a text is looked at.
-const SAMPLES: usize = 8;
-
-/// The fewest bytes of a text that the automaton serves for a code.
-#[derive(Clone, Copy)]
-pub(crate) struct Lengths {
-    /// Of ASCII characters.
-    ascii: usize,
-    /// Of others too.
-    any: usize,
-}
 
 /// Whether the code opens with many branches, one of which is taken at each position: an alternation of that many, or as
 /// many repeats in a row that may consume nothing.
@@ -128,26 +112,6 @@ pub(crate) fn is_worth_following(code: &Code) -> bool {
     is_told_little(prefilter) || opens_wide(code) || has_wide_loop(code)
 }
 
-/// The fewest bytes that a search alone, or the first of a list, goes over where the automaton serves it.
-pub(crate) fn shortest_followed(code: &Code) -> Lengths {
-    if opens_wide(code) {
-        return Lengths {
-            ascii: SHORT_WIDE,
-            any: SHORT_WIDE,
-        };
-    }
-    if code.prefilter.scans_for_opening() {
-        return Lengths {
-            ascii: SHORT_SCANNED,
-            any: SHORT_SCANNED,
-        };
-    }
-    Lengths {
-        ascii: SHORT,
-        any: SHORT_OTHER,
-    }
-}
-
 /// So many bytes are looked at for the first required text.
 const AHEAD: usize = 4096;
 
@@ -168,28 +132,4 @@ pub(crate) fn leaps(prefilter: &Prefilter, haystack: &[u8], first: usize, end: u
         None => true,
         Some(text) => text.saturating_sub(place) < passed,
     }
-}
-
-/// Whether bytes at some places of a part of a haystack, which begins at `first` and has so many bytes, are ASCII characters.
-fn seems_ascii(haystack: &[u8], first: usize, bytes: usize) -> bool {
-    let apart = bytes / SAMPLES;
-    for i in 0..SAMPLES {
-        let place = first.saturating_add(i.saturating_mul(apart));
-        if haystack.get(place).copied().unwrap_or(0) >= 0x80 {
-            return false;
-        }
-    }
-    true
-}
-
-/// Whether a search alone, or the first of a list, goes over enough bytes for the automaton, which serves searches over
-/// `shortest` bytes or more: where some characters are past ASCII, it needs more of them. It goes from `first` up to `end`, byte
-/// offsets.
-#[inline(never)]
-pub(crate) fn is_long_enough(haystack: &[u8], first: usize, end: usize, shortest: Lengths) -> bool {
-    let bytes = end.saturating_sub(first);
-    if bytes >= shortest.any {
-        return true;
-    }
-    bytes >= shortest.ascii && seems_ascii(haystack, first, bytes)
 }

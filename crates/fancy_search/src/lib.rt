@@ -2,6 +2,7 @@
 #![tactic(auto)]
 
 pub mod asked;
+mod begun;
 pub mod byte_sets;
 pub mod cache;
 mod following;

@@ -1,6 +1,6 @@
 //! A compiled pattern: the code that is searched with, and what decides how.
 
-ghost use Rattle.std.specs.Prelude.{◌≡◌, ◌≤◌, ◌<◌, ◌+◌, ◌-◌, ◌*◌, ◌^◌, ℕ, replicate, Bool, List, None, Some, IfOk, IfErr, IfSome, IfNone, IsUtf8, chars, is_some, true, false, length, string_bytes};
+ghost use Rattle.std.specs.Prelude.{◌≡◌, ◌≤◌, ◌<◌, ◌+◌, ◌-◌, ◌*◌, ◌^◌, ℕ, replicate, Bool, List, Option, None, Some, IfOk, IfErr, IfSome, IfNone, IsUtf8, chars, is_some, true, false, length, string_bytes};
 ghost use Rattle.std.specs.Option.{ForSome};
 ghost use Rattle.fancy_tree.specs.Pattern.{Pattern, pattern_of};
 ghost use Rattle.fancy_tree.specs.GroupNames.{names_of};
@@ -32,14 +32,15 @@ ghost use Rattle.fancy_search.specs.Compiled.{IsSpelled, IsCompiled};
 ghost use Rattle.fancy_search.specs.Options.{meaning_in, dialect_of, is_easy_under, search_options};
 ghost use Rattle.fancy_search.specs.Refusals.{error_of};
 ghost use Rattle.fancy_search.specs.ProgramSize.{IsRefusedUnder, RefusesPattern, passes};
-ghost use Rattle.fancy_search.specs.Cached.{IsAttemptIn};
+ghost use Rattle.fancy_search.specs.Cached.{IsAnswerIn, IsAttemptIn};
 ghost use Rattle.fancy_search.specs.OneItem.{AreOneItems, answer_to};
 ghost use Rattle.fancy_search.specs.Straight.{past_end, straight_end};
 ghost use Rattle.fancy_search.specs.declared.straight.StraightEnd.TheVariants.{Loop};
 
 use crate::asked::Asked;
+use crate::begun::Begun;
 use crate::cache::{AttemptCache, AttemptNotes, Cache, Engine, Kept, RememberedSteps};
-use crate::following::{Lengths, is_worth_following, leaps, shortest_followed};
+use crate::following::{is_worth_following, leaps};
 use crate::one_item::is_one_item;
 use crate::options::Options;
 use crate::straight::{StraightEnd, past_straight, past_turns, straight_end};
@@ -51,11 +52,13 @@ use fancy_code::found::Found;
 use fancy_input::input::Request;
 use fancy_input::lines::byte_at;
 use fancy_input::refusal::SearchRefusal;
+use fancy_input::span::Span;
 use fancy_input::work::Work;
 use fancy_machine::search as machine;
 use fancy_meaning::options::{SearchOptions, is_match_boundary};
 use fancy_prefilter::candidates::next_opening;
 use fancy_runner::notes::KeptTable;
+use fancy_runner::patience::Patience;
 use fancy_runner::search as runner;
 use fancy_splits::prices::Prices;
 use fancy_states::plain::is_plain;
@@ -90,8 +93,6 @@ pub struct Program {
     plain: bool,
     /// Whether searches are worth its steps, in texts that are not short.
     worth_following: bool,
-    /// The shortest texts that the automaton serves.
-    shortest: Lengths,
     /// The bytes that every haystack with a match has.
     required: RequiredBytes,
     /// What is told of the machine's attempts.
@@ -128,7 +129,6 @@ impl Drop for Program {
             straight: _,
             plain: _,
             worth_following: _,
-            shortest: _,
             required: _,
             prices: _,
         } = self;
@@ -180,6 +180,7 @@ fn end_of(found: Option<Found>, first: usize) -> usize {
 impl Program {
     ghost use Rattle.fancy_search.specs.SearchCounts.{RefusesEasy, IsOutOfSteps, AllowsAllSteps, tried_by, is_hopeless, IfFound, IsHardProgram, RefusesQuery, RefusesAttempt, AllowsAttempt, HasRoomFor, HeedsStepLimit, step_bound};
     ghost use Rattle.fancy_search.specs.Programs.{program_pattern, program_options, program_stack_limit, program_groups, program_names, program_length, program_is_easy, asked_of, query_in};
+    ghost use Rattle.fancy_search.specs.Begun.{IsBegun};
     ghost use Rattle.fancy_search.specs.Served.{IsPosition, StandsIn, KeepsCounts, CountsReturns, HeedsStackLimit, Serves, ServesAlone, ServesEasily};
     ghost use Rattle.fancy_search.specs.Starts.{may_start, NeverHolds, EndsByOne};
     ghost use Rattle.fancy_search.specs.KeptTables.{KeepsTable, KeepsSteps, IsKeptIn, IsKeptFor, KeepsNotes, LeavesNotes, table_kept, ahead_with, most_with, notes_to_go, TakesStepsToGo, SpendsSteps, KeepsOn, notes_ahead, is_steps, keeps_no_table};
@@ -214,7 +215,6 @@ impl Program {
         let straight = straight_end(&code);
         let plain = is_plain(&code);
         let worth_following = is_worth_following(&code);
-        let shortest = shortest_followed(&code);
         let required = RequiredBytes::new(alloc, &tree, options.meaning())?;
         let prices = prices_of(alloc, &code, easy)?;
         let text = String::from_str(alloc, pattern)?;
@@ -230,7 +230,6 @@ impl Program {
             straight,
             plain,
             worth_following,
-            shortest,
             required,
             prices,
         })
@@ -365,7 +364,7 @@ impl Program {
             → IsOutOfSteps result → ⊥ }
     {
         if self.is_followed(asked, &Kept::Nothing) && self.allows_all_steps(*asked.request, work) {
-            return self.find_by_steps(asked.haystack, *asked.request, work);
+            return self.find_followed(asked.haystack, *asked.request, work);
         }
         if self.is_read(asked, &Kept::Nothing) && self.allows_all_steps(*asked.request, work) {
             return Ok(self.read(asked.haystack, asked.request, work));
@@ -373,6 +372,45 @@ impl Program {
         let mut table = None;
         let mut runner = runner::Cache::new(*self.text.allocator());
         self.run(asked.haystack, asked.request, &mut table, &mut runner, work)
+    }
+
+    /// The same where the automaton may serve: by the runner as long as its patience lasts, and then by the automaton. An early match
+    /// does not pay for the steps that the automaton computes first.
+    #[inline(never)]
+    fn find_followed(
+        &self,
+        haystack: &[u8],
+        request: Request,
+        work: &mut Work,
+    ) -> Result<Option<Found>>
+        requires inside { request.range_end ≤ length haystack.now }
+        requires unanchored { request.anchored ≡ false }
+        requires easy { program_is_easy self.now ≡ true }
+        requires plain { ArePlain (instrs_of self.now.code) }
+        requires places { KeepsPlaces haystack.now self.now.code.meaning
+            (search_options self.now.options).on_boundaries }
+        requires room { HasRoomFor self.now request work.old }
+        requires allowed { AllowsAllSteps self.now request work.old }
+        ensures answer { IfOk result (λ m. (groups : List (Option Span)) × ((on : Bool)
+            → answer_with groups m ≡ search (asked_of self.now haystack.now request on))) }
+        ensures counts { KeepsCounts self.now result work.old work.new }
+        ensures idle { (on : Bool) → NoneTried (program_options self.now).seek
+            (asked_of self.now haystack.now request on) → steps_of work.new ≡ steps_of work.old }
+        ensures bounded { steps_of work.new ≤ steps_of work.old + step_bound self.now request }
+        ensures refused { IfErr result (λ e. e ≡ Error.Memory) }
+    {
+        let mut request = request;
+        if let Some(patience) = Kept::Nothing.patience(
+            request.effective_start(),
+            request.range_end,
+        ) {
+            let mut cache = runner::Cache::new(*self.text.allocator());
+            match self.begin(haystack, request, patience, &mut cache, work)? {
+                Begun::Ended(found) => return Ok(found),
+                Begun::Left(rest) => request = rest,
+            }
+        }
+        self.find_by_steps(haystack, request, work)
     }
 
     /// The same by the automaton.
@@ -388,7 +426,7 @@ impl Program {
         requires plain { ArePlain (instrs_of self.now.code) }
         requires places { KeepsPlaces haystack.now self.now.code.meaning
             (search_options self.now.options).on_boundaries }
-        requires room { HasRoomFor self.now request work.old }
+        requires paired { returns_of work.old ≤ steps_of work.old }
         requires allowed { AllowsAllSteps self.now request work.old }
         ensures answer { IfOk result (λ m. (on : Bool)
             → answer_with (replicate (program_groups self.now) None) m
@@ -493,6 +531,19 @@ impl Program {
             → AllowsAllSteps self.now asked.now.request.now work.old → IsOutOfSteps result → ⊥ }
     {
         if self.is_followed(asked, kept) && self.allows_all_steps(*asked.request, work) {
+            if !kept.is_steps() {
+                // a copy is lent, so that the other has no address
+                let mut left = *kept;
+                let found = self.search_followed(
+                    asked.haystack,
+                    *asked.request,
+                    &mut left,
+                    cache,
+                    work,
+                );
+                *kept = left;
+                return found;
+            }
             cache.served = Engine::WithoutGroups(self.code.groups);
             return self.follow(asked.haystack, *asked.request, kept, &mut cache.steps, work);
         }
@@ -508,6 +559,96 @@ impl Program {
         let found = self.run(asked.haystack, asked.request, &mut table, runner, work)?;
         *kept = Kept::Runner(table);
         Ok(found)
+    }
+
+    /// A search of a list for an easy pattern where the automaton may serve: by the runner as long as its patience lasts, and then by the
+    /// automaton.
+    #[inline(never)]
+    fn search_followed(
+        &self,
+        haystack: &[u8],
+        request: Request,
+        kept: &mut Kept,
+        cache: &mut Cache,
+        work: &mut Work,
+    ) -> Result<Option<Found>>
+        requires inside { request.range_end ≤ length haystack.now }
+        requires unanchored { request.anchored ≡ false }
+        requires easy { program_is_easy self.now ≡ true }
+        requires plain { ArePlain (instrs_of self.now.code) }
+        requires places { KeepsPlaces haystack.now self.now.code.meaning
+            (search_options self.now.options).on_boundaries }
+        requires room { HasRoomFor self.now request work.old }
+        requires allowed { AllowsAllSteps self.now request work.old }
+        requires kept { is_steps kept.old ≡ true → KeepsSteps self.now cache.old.steps.cells }
+        ensures answer { IfOk result (λ m. (on : Bool)
+            → IsAnswerIn m cache.new (asked_of self.now haystack.now request on)) }
+        ensures counts { KeepsCounts self.now result work.old work.new }
+        ensures idle { (on : Bool) → NoneTried (program_options self.now).seek
+            (asked_of self.now haystack.now request on) → steps_of work.new ≡ steps_of work.old }
+        ensures kept { IfOk result (λ _. is_steps kept.new ≡ true
+            → KeepsSteps self.now cache.new.steps.cells) }
+        ensures left { IfOk result (λ _. keeps_no_table kept.new ≡ true) }
+        ensures bounded { steps_of work.new ≤ steps_of work.old + step_bound self.now request }
+        ensures refused { IfErr result (λ e. e ≡ Error.Memory) }
+        ensures apart { cache.new.machine ≡ cache.old.machine }
+    {
+        let mut request = request;
+        if let Some(patience) = kept.patience(request.effective_start(), request.range_end) {
+            let before = work.steps();
+            cache.served = Engine::Runner;
+            match self.begin(haystack, request, patience, &mut cache.runner, work)? {
+                Begun::Ended(found) => {
+                    *kept = Kept::Begun(patience.after(work.steps() - before));
+                    return Ok(found);
+                }
+                Begun::Left(rest) => request = rest,
+            }
+        }
+        cache.served = Engine::WithoutGroups(self.code.groups);
+        self.follow(haystack, request, kept, &mut cache.steps, work)
+    }
+
+    /// The search for an easy pattern by the runner, as long as its patience lasts. It takes no more steps than are no longer ahead of
+    /// what it leaves.
+    #[inline(never)]
+    fn begin(
+        &self,
+        haystack: &[u8],
+        request: Request,
+        patience: Patience,
+        cache: &mut runner::Cache,
+        work: &mut Work,
+    ) -> Result<Begun>
+        requires inside { request.range_end ≤ length haystack.now }
+        requires unanchored { request.anchored ≡ false }
+        requires easy { program_is_easy self.now ≡ true }
+        requires room { HasRoomFor self.now request work.old }
+        requires allowed { AllowsAllSteps self.now request work.old }
+        ensures begun { IfOk result (IsBegun self.now haystack.now request (groups_in cache.new)
+            work.old work.new) }
+        ensures counts { KeepsCounts self.now result work.old work.new }
+        ensures idle { (on : Bool) → NoneTried (program_options self.now).seek
+            (asked_of self.now haystack.now request on) → steps_of work.new ≡ steps_of work.old }
+        ensures bounded { steps_of work.new ≤ steps_of work.old + step_bound self.now request }
+        ensures refused { IfErr result (λ e. e ≡ Error.Memory) }
+    {
+        let wanted = runner::Wanted {
+            request,
+            options: self.options.for_search(),
+            patience: Some(patience),
+        };
+        let mut table = None;
+        match runner::search(&self.code, haystack, wanted, &mut table, cache, work) {
+            Ok(searched) if searched.found.is_none() && searched.reached <= request.range_end => {
+                Ok(Begun::Left(Request {
+                    start: searched.reached,
+                    ..request
+                }))
+            }
+            Ok(searched) => Ok(Begun::Ended(searched.found)),
+            Err(refusal) => Err(error_of(refusal)),
+        }
     }
 
     /// Whether the items of the code are read where a match may begin: it is straight, no table is kept, and where it ends with a loop,
@@ -616,14 +757,13 @@ impl Program {
         ensures places { result ≡ true → KeepsPlaces asked.now.haystack.now self.now.code.meaning
             (search_options self.now.options).on_boundaries }
         ensures none { result ≡ true → table_kept kept.now ≡ None }
+        ensures unanchored { result ≡ true → asked.now.request.now.anchored ≡ false }
     {
         if asked.request.anchored || !self.worth_following {
             return false;
         }
-        let request = asked.request;
-        let first = request.effective_start();
-        let end = request.range_end;
-        if !kept.is_worth_steps(asked.haystack, first, end, self.shortest) {
+        let (first, end) = (asked.request.effective_start(), asked.request.range_end);
+        if !kept.is_worth_steps(first, end) {
             return false;
         }
         if kept.is_nothing() && leaps(&self.code.prefilter, asked.haystack, first, end) {
@@ -663,7 +803,7 @@ impl Program {
         requires plain { ArePlain (instrs_of self.now.code) }
         requires places { KeepsPlaces haystack.now self.now.code.meaning
             (search_options self.now.options).on_boundaries }
-        requires room { HasRoomFor self.now request work.old }
+        requires paired { returns_of work.old ≤ steps_of work.old }
         requires allowed { AllowsAllSteps self.now request work.old }
         requires kept { is_steps kept.old ≡ true → KeepsSteps self.now steps.old.cells }
         ensures answer { IfOk result (λ m. (on : Bool)
@@ -905,16 +1045,25 @@ impl Program {
             (λ _. AllowsAttempt self.now (query_in self.now asked.now) position) }
     {
         let from_position = anchored_at(*asked.request, position);
-        if self.is_followed_at(asked, from_position, &notes.kept)
-            && self.allows_all_steps(from_position, work)
+        let (first, end) = (from_position.effective_start(), from_position.range_end);
+        if !self.is_followed_at(asked, from_position, &notes.kept)
+            || !self.allows_all_steps(from_position, work)
         {
-            return self.follow_at(asked, position, notes, &mut cache.engines, work);
+            return self.attempt_at(asked, position, notes, cache, work);
         }
-        self.attempt_at(asked, position, notes, cache, work)
+        match notes.kept.patience(first, end) {
+            Some(patience) if !patience.is_over(0, first, end) => {
+                let before = work.steps();
+                let found = self.attempt_at(asked, position, notes, cache, work);
+                notes.kept = Kept::Begun(patience.after(work.steps() - before));
+                found
+            }
+            _ => self.follow_at(asked, position, notes, &mut cache.engines, work),
+        }
     }
 
-    /// Whether the automaton serves an attempt of a list: where it follows the code, and it is worth its steps. That is so from the
-    /// first one on or never, and no longer once it was not.
+    /// Whether the automaton serves attempts of a list: where it follows the code. That is so from the first one on or never, and no
+    /// longer once it was not.
     fn is_followed_at(&self, asked: &Asked<'_>, from_position: Request, kept: &Kept) -> bool
         ensures easy { result ≡ true → program_is_easy self.now ≡ true }
         ensures plain { result ≡ true → ArePlain (instrs_of self.now.code) }
@@ -924,13 +1073,7 @@ impl Program {
         if !self.easy || !self.can_follow(asked.text) {
             return false;
         }
-        let first = from_position.effective_start();
-        kept.is_worth_steps(
-            asked.haystack,
-            first,
-            from_position.range_end,
-            self.shortest,
-        )
+        kept.is_worth_steps(from_position.effective_start(), from_position.range_end)
     }
 
     /// The attempt at one position for an easy pattern, by the automaton, which goes on with the notes.
@@ -1161,9 +1304,10 @@ impl Program {
         let wanted = runner::Wanted {
             request: *request,
             options,
+            patience: None,
         };
         match runner::search(&self.code, haystack, wanted, kept, cache, work) {
-            Ok(found) => Ok(found),
+            Ok(searched) => Ok(searched.found),
             Err(refusal) => Err(error_of(refusal)),
         }
     }

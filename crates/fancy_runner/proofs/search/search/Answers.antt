@@ -25,11 +25,13 @@ use Rattle.fancy_runner.proofs.search.search.Goals.{then-is_match_boundary+in_ok
 
 pub returns-then-first-request-clause-answer : goal.returns-then-first-request-clause-answer
 returns-then-first-request-clause-answer c p on is =
-    sym (search_over (query_of p c.args.code.now (unfiltered c.args.wanted.options) c.args.haystack.now c.args.wanted.request on) _ _ (positions_none c.args.wanted.request (omega (arith, c.effective_start-first.ensures))))
+    search_over (query_of p c.args.code.now (unfiltered c.args.wanted.options) c.args.haystack.now c.args.wanted.request on) _ _ (omega (arith, c.effective_start-first.ensures, positions_none c.args.wanted.request (omega (arith, c.effective_start-first.ensures))))
+    ∙ sym (search_over (query_of p c.args.code.now (unfiltered c.args.wanted.options) c.args.haystack.now c.args.wanted.request on) _ _ (positions_none c.args.wanted.request (omega (arith, c.effective_start-first.ensures))))
 
 pub returns-then-place-last-clause-answer : goal.returns-then-place-last-clause-answer
 returns-then-place-last-clause-answer c p on is =
-    sym (ap₂ (answer_from (query_of p c.args.code.now (unfiltered c.args.wanted.options) c.args.haystack.now c.args.wanted.request on)) (sym c.last_position-last.ensures.count ∙ ap (λ (n : ℕ). c.last_position-last.result + 1 - n) (sym c.effective_start-first.ensures)) (sym c.effective_start-first.ensures)
+    search_over (query_of p c.args.code.now (unfiltered c.args.wanted.options) c.args.haystack.now c.args.wanted.request on) _ _ (omega (arith, c.effective_start-first.ensures, c.last_position-last.ensures.count))
+    ∙ sym (ap₂ (answer_from (query_of p c.args.code.now (unfiltered c.args.wanted.options) c.args.haystack.now c.args.wanted.request on)) (sym c.last_position-last.ensures.count ∙ ap (λ (n : ℕ). c.last_position-last.result + 1 - n) (sym c.effective_start-first.ensures)) (sym c.effective_start-first.ensures)
     ∙ openings_passed (query_of p c.args.code.now (unfiltered c.args.wanted.options) c.args.haystack.now c.args.wanted.request on) c.args.code.now is refl c.requires.inside (λ k. omega (arith, c.type_inv.haystack k)) (c.last_position-last.result + 1 - c.effective_start-first.result) (0) c.effective_start-first.result c.next_opening-place.result c.next_opening-place.ensures.passed (omega (arith, c.next_opening-place.ensures.within, c.last_position-last.ensures.inside)) (omega (arith, c.next_opening-place.ensures.within, c.next_opening-place.ensures.passed)) c.next_opening-place.ensures.none
     ∙ search_over (query_of p c.args.code.now (unfiltered c.args.wanted.options) c.args.haystack.now c.args.wanted.request on) 0 _ refl)
 
@@ -117,8 +119,17 @@ loop-place-preserved c =
       }
     ]
 
-pub returns-clause-answer : goal.returns-clause-answer
-returns-clause-answer c p on is = sym (c.loop-place.invariant.left p on is ∙ search_over (query_of p c.args.code.now (unfiltered c.args.wanted.options) c.args.haystack.now c.args.wanted.request on) _ _ (omega arith))
+pub returns-then-first-request-clause-ended : goal.returns-then-first-request-clause-ended
+returns-then-first-request-clause-ended c alone = omega (arith, c.effective_start-first.ensures, positions_none c.args.wanted.request (omega (arith, c.effective_start-first.ensures)))
+
+pub returns-then-place-last-clause-ended : goal.returns-then-place-last-clause-ended
+returns-then-place-last-clause-ended c alone = omega (arith, c.effective_start-first.ensures, c.last_position-last.ensures.count)
+
+pub returns-then-first-request-clause-left_off : goal.returns-then-first-request-clause-left_off
+returns-then-first-request-clause-left_off c early = absurd (omega (arith, early, c.effective_start-first.ensures, positions_none c.args.wanted.request (omega (arith, c.effective_start-first.ensures))))
+
+pub returns-then-place-last-clause-left_off : goal.returns-then-place-last-clause-left_off
+returns-then-place-last-clause-left_off c early = absurd (omega (arith, early, c.effective_start-first.ensures, c.last_position-last.ensures.count))
 
 pub ready_table-requires-clause-begins : goal.ready_table-requires-clause-begins
 ready_table-requires-clause-begins c = kept_begins c.args.code.now c.args.haystack.now c.args.wanted.request c.args.wanted.options c.effective_start-first.result c.base-base.result c.suppressed_ends.result c.effective_start-first.ensures c.suppressed_ends.ensures c.args.kept.now c.args.cache.now.notes c.requires.kept (c.base-base.ensures ∙ ap (λ (o : Option KeptTable). base_of o c.effective_start-first.result) c.take-before.ensures.value)
@@ -134,9 +145,6 @@ ready_table-requires-clause-short c = rw c.take-before.ensures.value (kept_small
 
 pub ready_last_lines-requires : goal.ready_last_lines-requires
 ready_last_lines-requires c some = kept_last_lines c.args.code.now c.args.haystack.now c.args.wanted.request c.args.wanted.options c.effective_start-first.result c.base-base.result c.suppressed_ends.result c.effective_start-first.ensures c.suppressed_ends.ensures c.args.kept.now c.args.cache.now.notes c.requires.kept (ap is_some (sym c.take-before.ensures.value) ∙ sym c.is_some.ensures ∙ some)
-
-pub returns-clause-bounded : goal.returns-clause-bounded
-returns-clause-bounded c = omega (arith, c.loop-place.invariant.spent)
 
 pub returns-in_err-end-clause-bounded : goal.returns-in_err-end-clause-bounded
 returns-in_err-end-clause-bounded c =
@@ -154,11 +162,6 @@ returns-in-Some-clause-spent c =
     let same = ap (λ (b : ℕ). steps_ahead c.args.code.now c.args.wanted.request b c.in-Some.end c.follow_start.new.cache.notes.table) ((c.base-base.ensures ∙ ap (λ (o : Option KeptTable). base_of o c.effective_start-first.result) c.take-before.ensures.value) ∙ ap (base_of c.args.kept.now) c.effective_start-first.ensures) in
     omega (arith, after, same, c.follow_start.ensures.attempted.ran.paid, c.loop-place.invariant.spent, again_paid c.args.kept.now c.args.code.now (effective_start c.args.wanted.request))
 
-pub returns-clause-passed : goal.returns-clause-passed
-returns-clause-passed c =
-    let after = ahead_after c.args.code.now c.args.haystack.now c.args.wanted.request c.args.wanted.options c.effective_start-first.result c.base-base.result c.suppressed_ends.result c.effective_start-first.ensures c.suppressed_ends.ensures c.loop-place.place (effective_start c.args.wanted.request + positions c.args.wanted.request) c.loop-place.cache.notes.table (omega (arith, c.loop-place.invariant.within, c.last_position-last.ensures.count)) in
-    omega (arith, after, c.loop-place.invariant.spent)
-
 pub returns-then-first-request-clause-passed : goal.returns-then-first-request-clause-passed
 returns-then-first-request-clause-passed c =
     omega (arith, fewer_ahead c.args.kept.now c.args.code.now c.args.wanted.request (effective_start c.args.wanted.request) (effective_start c.args.wanted.request + positions c.args.wanted.request) (table_in c.args.cache.now) (omega arith))
@@ -175,8 +178,14 @@ pub returns-then-place-last-clause-kept : goal.returns-then-place-last-clause-ke
 returns-then-place-last-clause-kept c =
     told_later c.args.code.now c.args.haystack.now c.args.wanted.request c.args.wanted.options c.args.kept.now (effective_start c.args.wanted.request) (effective_start c.args.wanted.request + (positions c.args.wanted.request - 1)) c.args.cache.now.notes (omega arith) c.requires.kept
 
-pub returns-clause-kept : goal.returns-clause-kept
-returns-clause-kept c =
+pub returns-after-loop-place-clause-kept : goal.returns-after-loop-place-clause-kept
+returns-after-loop-place-clause-kept c =
+    let based : c.base-base.result ≤ c.effective_start-first.result = kept_begins c.args.code.now c.args.haystack.now c.args.wanted.request c.args.wanted.options c.effective_start-first.result c.base-base.result c.suppressed_ends.result c.effective_start-first.ensures c.suppressed_ends.ensures c.args.kept.now c.args.cache.now.notes c.requires.kept (c.base-base.ensures ∙ ap (λ (o : Option KeptTable). base_of o c.effective_start-first.result) c.take-before.ensures.value) in
+    kept_after c.args.code.now c.args.haystack.now c.args.wanted.request c.args.wanted.options c.effective_start-first.result c.base-base.result c.suppressed_ends.result c.effective_start-first.ensures c.suppressed_ends.ensures c.args.kept.now c.loop-place.place (effective_start c.args.wanted.request + (positions c.args.wanted.request - 1)) _ (c.base-base.ensures ∙ ap (λ (o : Option KeptTable). base_of o c.effective_start-first.result) c.take-before.ensures.value) (omega (arith, based, c.effective_start-first.ensures)) (omega (arith, c.loop-place.invariant.within, c.last_position-last.ensures.count))
+    c.loop-place.invariant.room c.loop-place.invariant.small c.loop-place.invariant.failed c.loop-place.invariant.worked.last_lines
+
+pub returns-else-not-leaves_off-clause-kept : goal.returns-else-not-leaves_off-clause-kept
+returns-else-not-leaves_off-clause-kept c =
     let based : c.base-base.result ≤ c.effective_start-first.result = kept_begins c.args.code.now c.args.haystack.now c.args.wanted.request c.args.wanted.options c.effective_start-first.result c.base-base.result c.suppressed_ends.result c.effective_start-first.ensures c.suppressed_ends.ensures c.args.kept.now c.args.cache.now.notes c.requires.kept (c.base-base.ensures ∙ ap (λ (o : Option KeptTable). base_of o c.effective_start-first.result) c.take-before.ensures.value) in
     kept_after c.args.code.now c.args.haystack.now c.args.wanted.request c.args.wanted.options c.effective_start-first.result c.base-base.result c.suppressed_ends.result c.effective_start-first.ensures c.suppressed_ends.ensures c.args.kept.now c.loop-place.place (effective_start c.args.wanted.request + (positions c.args.wanted.request - 1)) _ (c.base-base.ensures ∙ ap (λ (o : Option KeptTable). base_of o c.effective_start-first.result) c.take-before.ensures.value) (omega (arith, based, c.effective_start-first.ensures)) (omega (arith, c.loop-place.invariant.within, c.last_position-last.ensures.count))
     c.loop-place.invariant.room c.loop-place.invariant.small c.loop-place.invariant.failed c.loop-place.invariant.worked.last_lines
@@ -200,9 +209,6 @@ returns-in_err-end-clause-idle c none = absurd (c.loop-place.invariant.starts (o
 
 pub returns-in-Some-clause-idle : goal.returns-in-Some-clause-idle
 returns-in-Some-clause-idle c none = absurd (c.loop-place.invariant.starts (omega (arith, c.loop-place-test.true)) none)
-
-pub returns-clause-heeds : goal.returns-clause-heeds
-returns-clause-heeds c = runs_heeded _ _ _ _ c.args.code.now c.args.wanted.request _ c.take-before.ensures.value c.limit_to_heed.ensures.limit (table_in c.args.cache.now) _ c.loop-place.invariant.worked.heeds (returns-clause-bounded c)
 
 pub returns-in_err-end-clause-heeds : goal.returns-in_err-end-clause-heeds
 returns-in_err-end-clause-heeds c = runs_heeded _ _ _ _ c.args.code.now c.args.wanted.request _ c.take-before.ensures.value c.limit_to_heed.ensures.limit (table_in c.args.cache.now) _ (runs_on _ _ _ _ c.loop-place.invariant.worked.heeds c.follow_start.ensures.attempted.ran.worked.heeds) (returns-in_err-end-clause-bounded c)

@@ -4,22 +4,22 @@ use Rattle.fancy_runner.specs.Groups.{groups_in}
 use Rattle.fancy_search.specs.Programs.{program_groups}
 use Rattle.fancy_search.specs.SearchCounts.{RefusesEasy}
 use Rattle.fancy_search.proofs.ResultLemmas.{if_ok, if_err}
-use Rattle.fancy_search.proofs.SearchedLemmas.{served_easily}
+use Rattle.fancy_search.proofs.SearchedLemmas.{served_easily, served_some}
 use Rattle.fancy_search.proofs.StraightLemmas.{counts_kept}
 use Rattle.fancy_search.proofs.program.Program.find_easily.Goals as goal
 
-pub find_by_steps-requires-clause-plain : goal.find_by_steps-requires-clause-plain
-find_by_steps-requires-clause-plain c = c.if-is_followed.ensures.plain refl
+pub find_followed-requires-clause-plain : goal.find_followed-requires-clause-plain
+find_followed-requires-clause-plain c = c.if-is_followed.ensures.plain refl
 
-pub find_by_steps-requires-clause-places : goal.find_by_steps-requires-clause-places
-find_by_steps-requires-clause-places c = c.if-is_followed.ensures.places refl
+pub find_followed-requires-clause-places : goal.find_followed-requires-clause-places
+find_followed-requires-clause-places c = c.if-is_followed.ensures.places refl
 
 pub returns-then-allows_all_steps-clause-served : goal.returns-then-allows_all_steps-clause-served
 returns-then-allows_all_steps-clause-served c =
-    served_easily c.args.self.now c.args.asked.now (replicate (program_groups c.args.self.now) None) c.requires.easy c.requires.hopeful c.find_by_steps.result _ _
-    (if_ok _ _ (λ m is. is c.args.asked.now.continues) c.find_by_steps.result c.find_by_steps.ensures.answer)
-    c.find_by_steps.ensures.counts (c.find_by_steps.ensures.idle c.args.asked.now.continues)
-    (if_err _ (RefusesEasy c.args.self.now) (λ e memory. rw memory tt) c.find_by_steps.result c.find_by_steps.ensures.refused)
+    served_some c.args.self.now c.args.asked.now c.requires.easy c.requires.hopeful c.find_followed.result _ _
+    (if_ok _ _ (λ m is. (is.0, is.1 c.args.asked.now.continues)) c.find_followed.result c.find_followed.ensures.answer)
+    c.find_followed.ensures.counts (c.find_followed.ensures.idle c.args.asked.now.continues)
+    (if_err _ (RefusesEasy c.args.self.now) (λ e memory. rw memory tt) c.find_followed.result c.find_followed.ensures.refused)
 
 pub returns-clause-served : goal.returns-clause-served
 returns-clause-served c =

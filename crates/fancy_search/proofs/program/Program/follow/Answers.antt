@@ -17,7 +17,7 @@ pub returns-after-not-serve_on-clause-counts : goal.returns-after-not-serve_on-c
 returns-after-not-serve_on-clause-counts c = record {
   steps = c.find.ensures.steps;
   returns = omega (arith, c.find.ensures.returns);
-  paired = omega (arith, c.find.ensures.returns, c.find.ensures.steps, c.requires.room.2);
+  paired = omega (arith, c.find.ensures.returns, c.find.ensures.steps, c.requires.paired);
   within = (runs_all (program_step_limit c.args.self.now) (step_bound c.args.self.now c.args.request) c.args.work.now c.find.new.work c.requires.allowed c.find.ensures.units c.find.ensures.bounded).within;
   limited = λ e. cc;
 }
@@ -26,7 +26,7 @@ pub returns-in-Err-clause-counts : goal.returns-in-Err-clause-counts
 returns-in-Err-clause-counts c = record {
   steps = c.find.ensures.steps;
   returns = omega (arith, c.find.ensures.returns);
-  paired = omega (arith, c.find.ensures.returns, c.find.ensures.steps, c.requires.room.2);
+  paired = omega (arith, c.find.ensures.returns, c.find.ensures.steps, c.requires.paired);
   within = (runs_all (program_step_limit c.args.self.now) (step_bound c.args.self.now c.args.request) c.args.work.now c.find.new.work c.requires.allowed c.find.ensures.units c.find.ensures.bounded).within;
   limited = λ e. cc;
 }

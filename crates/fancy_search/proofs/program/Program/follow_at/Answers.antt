@@ -15,9 +15,6 @@ use Rattle.fancy_search.proofs.program.Program.follow_at.Goals as goal
 pub follow-found-requires-clause-inside : goal.follow-found-requires-clause-inside
 follow-found-requires-clause-inside c = rw c.anchored_at-from_position.ensures c.args.asked.now.inside
 
-pub follow-found-requires-clause-room : goal.follow-found-requires-clause-room
-follow-found-requires-clause-room c = rw c.anchored_at-from_position.ensures c.requires.room
-
 pub follow-found-requires-clause-allowed : goal.follow-found-requires-clause-allowed
 follow-found-requires-clause-allowed c = rw c.anchored_at-from_position.ensures c.requires.allowed
 

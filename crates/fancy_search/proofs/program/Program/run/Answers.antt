@@ -1,7 +1,8 @@
-use Rattle.std.proofs.Common.{Err, ap, arith}
+use Rattle.std.proofs.Common.{Err, ap, arith, refl}
 use Rattle.fancy_code.proofs.ClassifyLemmas.{easy_code}
 use Rattle.fancy_search.proofs.RefusalLemmas.{easily_refused, out_of_steps}
 use Rattle.fancy_search.proofs.SearchedLemmas.{known, nowhere}
+use Rattle.fancy_search.proofs.LaterLemmas.{all_answered}
 use Rattle.fancy_search.proofs.ProgramSizeLemmas.{parts_of_easy}
 use Rattle.fancy_search.proofs.program.Program.run.Goals as goal
 
@@ -12,7 +13,7 @@ pub returns-in-Ok-clause-answer : goal.returns-in-Ok-clause-answer
 returns-in-Ok-clause-answer c on =
     let easy = parts_of_easy _ _ _ c.requires.easy in
     rw (easy.1, easy.2) (known _ _ c.args.self.now.compiled
-    (λ compiled. rw (c.args.self.now.meant, c.for_search-options.ensures) at (c.in-Ok.ensures.answer _ on compiled.coded)))
+    (λ compiled. all_answered _ _ _ (rw (c.args.self.now.meant, c.for_search-options.ensures) at (c.in-Ok.ensures.answer _ on compiled.coded)) (c.in-Ok.ensures.ended refl)))
 
 pub returns-in-Ok-clause-counts : goal.returns-in-Ok-clause-counts
 returns-in-Ok-clause-counts c =

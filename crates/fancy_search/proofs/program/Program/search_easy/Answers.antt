@@ -20,6 +20,18 @@ follow-requires-clause-plain c = c.if-is_followed.ensures.plain refl
 pub follow-requires-clause-places : goal.follow-requires-clause-places
 follow-requires-clause-places c = c.if-is_followed.ensures.places refl
 
+pub search_followed-found-requires-clause-plain : goal.search_followed-found-requires-clause-plain
+search_followed-found-requires-clause-plain c = c.if-is_followed.ensures.plain refl
+
+pub returns-then-not-is_steps-clause-served : goal.returns-then-not-is_steps-clause-served
+returns-then-not-is_steps-clause-served c = record {
+  answer = if_ok _ _ (λ m is. is c.args.asked.now.continues) c.search_followed-found.result c.search_followed-found.ensures.answer;
+  counts = c.search_followed-found.ensures.counts;
+  idle = c.search_followed-found.ensures.idle c.args.asked.now.continues;
+  refused = if_err _ (RefusesEasy c.args.self.now) (λ e memory. rw memory tt) c.search_followed-found.result c.search_followed-found.ensures.refused;
+  apart = c.search_followed-found.ensures.apart;
+}
+
 pub returns-then-allows_all_steps-clause-served : goal.returns-then-allows_all_steps-clause-served
 returns-then-allows_all_steps-clause-served c = record {
   answer = if_ok _ _ (λ m is. is c.args.asked.now.continues) c.follow.result c.follow.ensures.answer;
@@ -83,7 +95,7 @@ returns-in_err-found-clause-fresh c none =
 
 pub returns-then-allows_all_steps-clause-kept : goal.returns-then-allows_all_steps-clause-kept
 returns-then-allows_all_steps-clause-kept c =
-    if_ok _ _ (λ m _. found_steps c.args.self.now c.args.asked.now.haystack.now (record c.args.cache.now { served = WithoutGroups c.args.self.now.code.groups; steps = c.follow.new.steps }) c.args.asked.now.request.now c.follow.new.kept m c.follow.ensures.left c.follow.ensures.kept) c.follow.result c.follow.ensures.answer
+    if_ok _ _ (λ m _. found_steps c.args.self.now c.args.asked.now.haystack.now (record c.args.cache.now { served = WithoutGroups c.args.self.now.code.groups; steps = c.follow.new.steps }) c.args.asked.now.request.now c.follow.new.kept m c.follow.ensures.left (λ _. c.follow.ensures.kept)) c.follow.result c.follow.ensures.answer
 
 pub returns-then-allows_all_steps-2-clause-served : goal.returns-then-allows_all_steps-2-clause-served
 returns-then-allows_all_steps-2-clause-served c = record {

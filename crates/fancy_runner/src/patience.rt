@@ -1,0 +1,41 @@
+//! How long searches go on before they leave off.
+
+/// How long searches of one text go on: until they took so many steps together, and the rest of the text would take as many again, at
+/// the rate at which they took them.
+#[derive(Clone, Copy, PartialEq, Eq)]
+pub struct Patience {
+    /// So many steps are enough.
+    pub steps: usize,
+    /// How many the searches before took.
+    pub taken: usize,
+    /// Where the first search began, a byte offset.
+    pub first: usize,
+}
+
+impl Patience {
+    /// That of the next search, after one that took so many steps.
+    pub fn after(self, steps: usize) -> Patience {
+        Patience {
+            taken: self.taken.saturating_add(steps),
+            ..self
+        }
+    }
+
+    /// Whether it is over at a place, once a search took so many steps, where the text goes up to `end`; both are byte offsets.
+    ///
+    /// ```text
+    /// let patience = Patience { steps: 1000, taken: 400, first: 0 };
+    /// patience.is_over(500, 100, 5000)     // false: 900 steps are too few
+    /// patience.is_over(700, 100, 5000)     // true: the rest takes more at 11 steps a byte
+    /// patience.is_over(700, 4990, 5000)    // false: the rest takes a few
+    /// ```
+    pub fn is_over(self, steps: usize, place: usize, end: usize) -> bool {
+        let taken = self.taken.saturating_add(steps);
+        if taken < self.steps {
+            return false;
+        }
+        let passed = place.saturating_sub(self.first);
+        let left = end.saturating_sub(place);
+        taken.saturating_mul(left) >= self.steps.saturating_mul(passed)
+    }
+}

@@ -1,0 +1,103 @@
+-- A search that goes on: from a later position on it answers as the whole one, where nothing was found before.
+use Rattle.std.proofs.Common.{◌≡◌, ◌+◌, ◌-◌, ◌*◌, ◌≤◌, ◌∙◌, ℕ, zero, suc, Bool, true, false, List, Option, Some, None, IfNone, length, refl, sym, subst, ap, ap₂, arith, true≢false}
+use Rattle.std.specs.Prelude.{is_some, option_map}
+use Rattle.std.specs.Option.{option_or}
+use Rattle.fancy_input.specs.Requests.{effective_start, positions}
+use Rattle.fancy_input.specs.Work.{steps_of, units_of, HasWorkFor}
+use Rattle.fancy_input.specs.declared.input.Request.{Request}
+use Rattle.fancy_input.specs.declared.span.Span.{Span}
+use Rattle.fancy_input.specs.declared.work.Work.{Work}
+use Rattle.fancy_meaning.specs.Context.{State}
+use Rattle.fancy_meaning.specs.Search.{Query, Answer, answer_at, answer_from, context_of, is_match_boundary, search}
+use Rattle.fancy_meaning.proofs.AttemptLemmas.{search_over}
+use Rattle.fancy_code.specs.Code.{instrs_of}
+use Rattle.fancy_code.specs.Compile.{AreEasy, IsCodeOf}
+use Rattle.fancy_code.specs.Queries.{answer_with}
+use Rattle.fancy_code.specs.declared.code.Code.{Code}
+use Rattle.fancy_code.specs.declared.found.Found.{Found}
+use Rattle.fancy_code.proofs.ClassifyLemmas.{easy_code}
+use Rattle.fancy_code.proofs.PositionLemmas.{attempt_answer, first_thread, search_skip}
+use Rattle.fancy_runner.specs.KeptTable.{past_tried}
+use Rattle.fancy_runner.specs.Searched.{IsAnsweredBy, answer_past}
+use Rattle.fancy_runner.specs.declared.search.Searched.{Searched}
+use Rattle.fancy_search.specs.Programs.{asked_of, program_is_easy}
+use Rattle.fancy_search.specs.declared.program.Program.{Program}
+use Rattle.fancy_search.proofs.ProgramSizeLemmas.{parts_of_easy}
+use Rattle.fancy_search.proofs.SearchedLemmas.{known}
+
+-- easy code answers the same at a position wherever the search begins, and wherever `\G` holds
+module _ (q : Query) (code : Code) (is : IsCodeOf q.sought.pattern code) (groups : q.sought.groups ≡ code.groups) (meant : q.sought.meaning ≡ code.meaning)
+    (only : q.sought.not_empty ≡ false) (first : q.sought.longest ≡ false) (inside : q.request.range_end ≤ length q.haystack) (easy : AreEasy (instrs_of code))
+    (start : ℕ) (later : Bool) where
+  abbrev other : Query
+  other = record q { request = record q.request { start = start }; continues = later }
+
+  alike_by : (p : ℕ) → p ≤ q.request.range_end → (b : Bool) → is_match_boundary q.sought.on_boundaries q.haystack p ≡ b → answer_at other p ≡ answer_at q p
+  alike_by p to false may = search_skip other p first may ∙ sym (search_skip q p first may)
+  alike_by p to true may =
+      let x = context_of other in
+      sym (attempt_answer other code is groups meant only first inside x x.continues_at refl easy p (first_thread code p) refl to may)
+      ∙ attempt_answer q code is groups meant only first inside x x.continues_at refl easy p (first_thread code p) refl to may
+
+  alike : (n p : ℕ) → n + p ≤ q.request.range_end + 1 → answer_from other n p ≡ answer_from q n p
+  unfolding answer_from
+  alike zero p le = refl
+  alike (suc n) p le =
+      ap₂ (λ (s : Option State) (rest : Option Answer). option_or (option_map (λ s. record { position = p; state = s }) s) rest)
+      (alike_by p (omega (arith, le)) (is_match_boundary q.sought.on_boundaries q.haystack p) refl) (alike n (p + 1) (omega (arith, le)))
+
+  -- so the search from a place on answers as that of the whole does from there on
+  pub later_easy : q.request.anchored ≡ false → effective_start q.request ≤ start → start ≤ q.request.range_end → search other ≡ answer_past q start
+  later_easy free from to =
+      let begins : effective_start other.request ≡ start = omega (arith, from) in
+      let count : positions other.request ≡ past_tried q.request - start = rw free (omega (arith, from, to)) in
+      ap₂ (answer_from other) count begins ∙ alike (past_tried q.request - start) start (rw free (omega (arith, from, to)))
+
+-- the same of what is asked of a program
+pub later_search : (r : Program) (haystack : List ℕ) (request : Request) (start : ℕ) (on later : Bool) → program_is_easy r ≡ true → request.range_end ≤ length haystack
+    → request.anchored ≡ false → effective_start request ≤ start → start ≤ request.range_end
+    → search (asked_of r haystack (record request { start = start }) later) ≡ answer_past (asked_of r haystack request on) start
+later_search r haystack request start on later easy inside free from to =
+    let parts = parts_of_easy _ _ _ easy in
+    known _ _ r.compiled
+    (λ compiled. later_easy (asked_of r haystack request on) r.code compiled.coded refl (sym r.meant) parts.1 parts.2 inside (easy_code _ (r.light parts.0)) start later free from to)
+
+-- what is asked of an easy program has neither of the two filters
+pub without_filters : (r : Program) (haystack : List ℕ) (request : Request) (on : Bool) → program_is_easy r ≡ true → (P : Query → Type 0)
+    → P (record (asked_of r haystack request on) { sought = record (asked_of r haystack request on).sought { not_empty = false; longest = false } }) → P (asked_of r haystack request on)
+without_filters r haystack request on easy P is =
+    let parts = parts_of_easy _ _ _ easy in
+    let q : Bool → Bool → Query = λ n l. record (asked_of r haystack request on) { sought = record (asked_of r haystack request on).sought { not_empty = n; longest = l } } in
+    subst P (ap₂ q (sym parts.1) (sym parts.2)) is
+
+-- what a search came to where it found nothing
+pub past_answered : (q : Query) (groups : List (Option Span)) (s : Searched) → IsAnsweredBy q groups s → s.found ≡ None → answer_past q s.reached ≡ search q
+past_answered q groups s is none = ap (λ (m : Option Found). option_or (answer_with groups m) (answer_past q s.reached)) (sym none) ∙ is
+
+-- what holds where nothing was found
+pub where_none : (m : Option Found) (P : Type 0) → (is_some m ≡ false → P) → IfNone m P
+where_none None P so = so refl
+where_none (Some f) P so = tt
+
+pub none_is : (m : Option Found) → is_some m ≡ false → m ≡ None
+none_is None e = refl
+none_is (Some f) e = absurd (true≢false e)
+
+-- what a search came to is its answer where it reached the end
+pub all_answered : (q : Query) (groups : List (Option Span)) (s : Searched) → IsAnsweredBy q groups s → IfNone s.found (past_tried q.request ≤ s.reached) → answer_with groups s.found ≡ search q
+all_answered q groups s is ended = by s.found refl ended where
+  by : (m : Option Found) → s.found ≡ m → IfNone m (past_tried q.request ≤ s.reached) → answer_with groups s.found ≡ search q
+  by None e past = ap (answer_with groups) e ∙ sym (search_over q (past_tried q.request - s.reached) s.reached (omega (arith, past))) ∙ past_answered q groups s is e
+  by (Some f) e past = ap (answer_with groups) e ∙ ap (λ (m : Option Found). option_or (answer_with groups m) (answer_past q s.reached)) (sym e) ∙ is
+
+-- the limit that allows all steps of a search allows those of the rest of it
+pub work_later : (limit : Option ℕ) (before after : Work) (n m : ℕ) → units_of after ≡ units_of before → steps_of after + m ≤ steps_of before + n
+    → HasWorkFor limit n before → HasWorkFor limit m after
+work_later None before after n m units le has = tt
+work_later (Some most) before after n m units le has = omega (arith, units, le, has)
+
+-- the steps that are paid for positions before a place are not ahead of the others
+pub paid_before : (n first place past before after : ℕ) → first ≤ place → place ≤ past → after ≤ before + n * (place - first) → after + n * (past - place) ≤ before + n * (past - first)
+paid_before n first place past before after low high paid =
+    let whole : past - first ≡ (place - first) + (past - place) = omega (arith, low, high) in
+    omega (arith, paid, ap (λ (k : ℕ). n * k) whole)
