@@ -34,6 +34,7 @@ use fancy_prefilter::candidates::next_opening;
 /// Makes the table ready for a search that starts at `first`: where none is kept it begins anew, with the marks of each place from its
 /// base on. Where so many are no `usize`, memory is refused. One that is kept loses the marks of that place, where these may lie on the
 /// way to the match before.
+#[inline(always)]
 fn ready_table(
     table: &mut Table,
     attempt: &Attempt,

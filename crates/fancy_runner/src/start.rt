@@ -168,6 +168,7 @@ fn passes_test(
 }
 
 /// An attempt at a place from the first instruction on, with no group written. Its contract is that of `follow`.
+#[inline(always)]
 pub(crate) fn follow_start(
     attempt: &Attempt,
     place: usize,
