@@ -93,7 +93,7 @@ impl Kept {
                 taken: 0,
                 first,
             }),
-            Kept::Begun(patience) => Some(patience),
+            Kept::Begun(patience) if !patience.is_over(0, first, end) => Some(patience),
             _ => None,
         }
     }

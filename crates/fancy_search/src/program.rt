@@ -1046,25 +1046,32 @@ impl Program {
     {
         let from_position = anchored_at(*asked.request, position);
         let (first, end) = (from_position.effective_start(), from_position.range_end);
-        if !self.is_followed_at(asked, from_position, &notes.kept)
-            || !self.allows_all_steps(from_position, work)
-        {
-            return self.attempt_at(asked, position, notes, cache, work);
+        let followed = self.is_followed_at(asked, from_position, &notes.kept, work);
+        let patience = notes.kept.patience(first, end);
+        if followed && patience.is_none() {
+            return self.follow_at(asked, position, notes, &mut cache.engines, work);
         }
-        match notes.kept.patience(first, end) {
-            Some(patience) if !patience.is_over(0, first, end) => {
-                let before = work.steps();
-                let found = self.attempt_at(asked, position, notes, cache, work);
+        let before = work.steps();
+        let found = self.attempt_at(asked, position, notes, cache, work);
+        if let Some(patience) = patience {
+            if followed {
                 notes.kept = Kept::Begun(patience.after(work.steps() - before));
-                found
             }
-            _ => self.follow_at(asked, position, notes, &mut cache.engines, work),
         }
+        found
     }
 
     /// Whether the automaton serves attempts of a list: where it follows the code. That is so from the first one on or never, and no
     /// longer once it was not.
-    fn is_followed_at(&self, asked: &Asked<'_>, from_position: Request, kept: &Kept) -> bool
+    fn is_followed_at(
+        &self,
+        asked: &Asked<'_>,
+        from_position: Request,
+        kept: &Kept,
+        work: &Work,
+    ) -> bool
+        requires inside { from_position.range_end < usize.MAX }
+        ensures allowed { result ≡ true → AllowsAllSteps self.now from_position work.now }
         ensures easy { result ≡ true → program_is_easy self.now ≡ true }
         ensures plain { result ≡ true → ArePlain (instrs_of self.now.code) }
         ensures places { result ≡ true → KeepsPlaces asked.now.haystack.now self.now.code.meaning
@@ -1074,6 +1081,7 @@ impl Program {
             return false;
         }
         kept.is_worth_steps(from_position.effective_start(), from_position.range_end)
+            && self.allows_all_steps(from_position, work)
     }
 
     /// The attempt at one position for an easy pattern, by the automaton, which goes on with the notes.
