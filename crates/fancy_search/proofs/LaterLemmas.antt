@@ -3,10 +3,8 @@ use Rattle.std.proofs.Common.{◌≡◌, ◌+◌, ◌-◌, ◌*◌, ◌≤◌, �
 use Rattle.std.specs.Prelude.{is_some, option_map}
 use Rattle.std.specs.Option.{option_or}
 use Rattle.fancy_input.specs.Requests.{effective_start, positions}
-use Rattle.fancy_input.specs.Work.{steps_of, units_of, HasWorkFor}
 use Rattle.fancy_input.specs.declared.input.Request.{Request}
 use Rattle.fancy_input.specs.declared.span.Span.{Span}
-use Rattle.fancy_input.specs.declared.work.Work.{Work}
 use Rattle.fancy_meaning.specs.Context.{State}
 use Rattle.fancy_meaning.specs.Search.{Query, Answer, answer_at, answer_from, context_of, is_match_boundary, search}
 use Rattle.fancy_meaning.proofs.AttemptLemmas.{search_over}
@@ -89,12 +87,6 @@ all_answered q groups s is ended = by s.found refl ended where
   by : (m : Option Found) → s.found ≡ m → IfNone m (past_tried q.request ≤ s.reached) → answer_with groups s.found ≡ search q
   by None e past = ap (answer_with groups) e ∙ sym (search_over q (past_tried q.request - s.reached) s.reached (omega (arith, past))) ∙ past_answered q groups s is e
   by (Some f) e past = ap (answer_with groups) e ∙ ap (λ (m : Option Found). option_or (answer_with groups m) (answer_past q s.reached)) (sym e) ∙ is
-
--- the limit that allows all steps of a search allows those of the rest of it
-pub work_later : (limit : Option ℕ) (before after : Work) (n m : ℕ) → units_of after ≡ units_of before → steps_of after + m ≤ steps_of before + n
-    → HasWorkFor limit n before → HasWorkFor limit m after
-work_later None before after n m units le has = tt
-work_later (Some most) before after n m units le has = omega (arith, units, le, has)
 
 -- the steps that are paid for positions before a place are not ahead of the others
 pub paid_before : (n first place past before after : ℕ) → first ≤ place → place ≤ past → after ≤ before + n * (place - first) → after + n * (past - place) ≤ before + n * (past - first)
