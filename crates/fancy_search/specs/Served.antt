@@ -1,8 +1,9 @@
 -- What searches and attempts answer, and what they add to the counts.
-use Rattle.std.specs.Prelude.{◌≡◌, ◌≤◌, ℕ, Result, Option, None, IfOk, IfErr}
+use Rattle.std.specs.Prelude.{◌≡◌, ◌≤◌, ℕ, List, Result, Option, None, true, length, IfOk, IfErr}
 use Rattle.fancy_tree.specs.declared.error.Error.{Error}
 use Rattle.fancy_input.specs.declared.input.Request.{Request}
 use Rattle.fancy_input.specs.Requests.{effective_start}
+use Rattle.fancy_code.specs.Code.{instrs_of}
 use Rattle.fancy_code.specs.declared.found.Found.{Found}
 use Rattle.fancy_input.specs.declared.work.Work.{Work}
 use Rattle.fancy_input.specs.Work.{steps_of, returns_of}
@@ -12,7 +13,10 @@ use Rattle.fancy_machine.specs.Asked.{HeedsLimit}
 use Rattle.fancy_search.specs.declared.asked.Asked.{Asked}
 use Rattle.fancy_search.specs.declared.cache.Cache.{Cache}
 use Rattle.fancy_search.specs.declared.program.Program.{Program}
-use Rattle.fancy_search.specs.Programs.{KeepsCharacters, program_options, program_limit, program_stack_limit, query_in}
+use Rattle.fancy_states.specs.Futures.{ArePlain}
+use Rattle.fancy_states.specs.Search.{KeepsPlaces}
+use Rattle.fancy_search.specs.Options.{search_options}
+use Rattle.fancy_search.specs.Programs.{KeepsCharacters, program_is_easy, program_options, program_limit, program_stack_limit, query_in}
 use Rattle.fancy_search.specs.Cached.{IsAnswerIn, IsCleanlyFound, IsFoundBy}
 use Rattle.fancy_search.specs.SearchCounts.{IsHardProgram, TriesNothing, RefusesQuery, RefusesEasy, AllowsQuery, IsStopped, IsOutOfSteps, HeedsStepLimit, HasNoStepsLeft, AddsReturns, AddsReturnsUpTo, IfFound, returns_taken}
 
@@ -20,6 +24,13 @@ use Rattle.fancy_search.specs.SearchCounts.{IsHardProgram, TriesNothing, Refuses
 pub record IsPosition (request : Request) (position : ℕ) : Type 0 where
   pub from : effective_start request ≤ position
   pub to : position ≤ request.range_end
+
+-- The automaton may serve a search: it follows the code, and goes from boundary to boundary.
+pub record IsFollowable (r : Program) (haystack : List ℕ) (request : Request) : Type 0 where
+  pub inside : request.range_end ≤ length haystack
+  pub easy : program_is_easy r ≡ true
+  pub plain : ArePlain (instrs_of r.code)
+  pub places : KeepsPlaces haystack r.code.meaning (search_options r.options).on_boundaries
 
 -- What was found ends where it starts or later, within the range, and on whole characters where matches do.
 pub record StandsIn (r : Program) (asked : Asked) (f : Found) : Type 0 where

@@ -181,7 +181,7 @@ impl Program {
     ghost use Rattle.fancy_search.specs.SearchCounts.{RefusesEasy, IsOutOfSteps, AllowsAllSteps, tried_by, is_hopeless, IfFound, IsHardProgram, RefusesQuery, RefusesAttempt, AllowsAttempt, HasRoomFor, HeedsStepLimit, step_bound};
     ghost use Rattle.fancy_search.specs.Programs.{program_pattern, program_options, program_stack_limit, program_groups, program_names, program_length, program_is_easy, asked_of, query_in};
     ghost use Rattle.fancy_search.specs.Begun.{IsBegun};
-    ghost use Rattle.fancy_search.specs.Served.{IsPosition, StandsIn, KeepsCounts, CountsReturns, HeedsStackLimit, Serves, ServesAlone, ServesEasily};
+    ghost use Rattle.fancy_search.specs.Served.{IsPosition, IsFollowable, StandsIn, KeepsCounts, CountsReturns, HeedsStackLimit, Serves, ServesAlone, ServesEasily};
     ghost use Rattle.fancy_search.specs.Starts.{may_start, NeverHolds, EndsByOne};
     ghost use Rattle.fancy_search.specs.KeptTables.{KeepsTable, KeepsSteps, IsKeptIn, IsKeptFor, KeepsNotes, LeavesNotes, table_kept, ahead_with, most_with, notes_to_go, TakesStepsToGo, SpendsSteps, KeepsOn, notes_ahead, is_steps, keeps_no_table};
     ghost use Rattle.fancy_input.specs.LastLines.{KnowsLastLines};
@@ -383,12 +383,8 @@ impl Program {
         request: Request,
         work: &mut Work,
     ) -> Result<Option<Found>>
-        requires inside { request.range_end ≤ length haystack.now }
+        requires followable { IsFollowable self.now haystack.now request }
         requires unanchored { request.anchored ≡ false }
-        requires easy { program_is_easy self.now ≡ true }
-        requires plain { ArePlain (instrs_of self.now.code) }
-        requires places { KeepsPlaces haystack.now self.now.code.meaning
-            (search_options self.now.options).on_boundaries }
         requires room { HasRoomFor self.now request work.old }
         requires allowed { AllowsAllSteps self.now request work.old }
         ensures answer { IfOk result (λ m. (groups : List (Option Span)) × ((on : Bool)
@@ -421,11 +417,7 @@ impl Program {
         request: Request,
         work: &mut Work,
     ) -> Result<Option<Found>>
-        requires inside { request.range_end ≤ length haystack.now }
-        requires easy { program_is_easy self.now ≡ true }
-        requires plain { ArePlain (instrs_of self.now.code) }
-        requires places { KeepsPlaces haystack.now self.now.code.meaning
-            (search_options self.now.options).on_boundaries }
+        requires followable { IsFollowable self.now haystack.now request }
         requires paired { returns_of work.old ≤ steps_of work.old }
         requires allowed { AllowsAllSteps self.now request work.old }
         ensures answer { IfOk result (λ m. (on : Bool)
@@ -572,12 +564,8 @@ impl Program {
         cache: &mut Cache,
         work: &mut Work,
     ) -> Result<Option<Found>>
-        requires inside { request.range_end ≤ length haystack.now }
+        requires followable { IsFollowable self.now haystack.now request }
         requires unanchored { request.anchored ≡ false }
-        requires easy { program_is_easy self.now ≡ true }
-        requires plain { ArePlain (instrs_of self.now.code) }
-        requires places { KeepsPlaces haystack.now self.now.code.meaning
-            (search_options self.now.options).on_boundaries }
         requires room { HasRoomFor self.now request work.old }
         requires allowed { AllowsAllSteps self.now request work.old }
         requires kept { is_steps kept.old ≡ true → KeepsSteps self.now cache.old.steps.cells }
@@ -798,11 +786,7 @@ impl Program {
         steps: &mut RememberedSteps,
         work: &mut Work,
     ) -> Result<Option<Found>>
-        requires inside { request.range_end ≤ length haystack.now }
-        requires easy { program_is_easy self.now ≡ true }
-        requires plain { ArePlain (instrs_of self.now.code) }
-        requires places { KeepsPlaces haystack.now self.now.code.meaning
-            (search_options self.now.options).on_boundaries }
+        requires followable { IsFollowable self.now haystack.now request }
         requires paired { returns_of work.old ≤ steps_of work.old }
         requires allowed { AllowsAllSteps self.now request work.old }
         requires kept { is_steps kept.old ≡ true → KeepsSteps self.now steps.old.cells }
@@ -1178,12 +1162,8 @@ impl Program {
         request: Request,
         steps: &RememberedSteps,
     ) -> Option<Option<Found>>
-        requires inside { request.range_end ≤ length haystack.now }
+        requires followable { IsFollowable self.now haystack.now request }
         requires anchored { request.anchored ≡ true }
-        requires easy { program_is_easy self.now ≡ true }
-        requires plain { ArePlain (instrs_of self.now.code) }
-        requires places { KeepsPlaces haystack.now self.now.code.meaning
-            (search_options self.now.options).on_boundaries }
         requires kept { KeepsSteps self.now steps.now.cells }
         ensures { IfSome result (λ m. (on : Bool)
             → answer_with (replicate (program_groups self.now) None) m

@@ -8,11 +8,13 @@ use Rattle.fancy_search.proofs.SearchedLemmas.{served_easily, served_some}
 use Rattle.fancy_search.proofs.StraightLemmas.{counts_kept}
 use Rattle.fancy_search.proofs.program.Program.find_easily.Goals as goal
 
-pub find_followed-requires-clause-plain : goal.find_followed-requires-clause-plain
-find_followed-requires-clause-plain c = c.if-is_followed.ensures.plain refl
-
-pub find_followed-requires-clause-places : goal.find_followed-requires-clause-places
-find_followed-requires-clause-places c = c.if-is_followed.ensures.places refl
+pub find_followed-requires-clause-followable : goal.find_followed-requires-clause-followable
+find_followed-requires-clause-followable c = record {
+  inside = c.args.asked.now.inside;
+  easy = c.requires.easy;
+  plain = c.if-is_followed.ensures.plain refl;
+  places = c.if-is_followed.ensures.places refl;
+}
 
 pub returns-then-allows_all_steps-clause-served : goal.returns-then-allows_all_steps-clause-served
 returns-then-allows_all_steps-clause-served c =

@@ -4,14 +4,16 @@ use Rattle.fancy_search.proofs.KeptTablesLemmas.{steps_held}
 use Rattle.fancy_search.proofs.SearchedLemmas.{attempted}
 use Rattle.fancy_search.proofs.program.Program.find_told.Goals as goal
 
-pub recall-requires-clause-inside : goal.recall-requires-clause-inside
-recall-requires-clause-inside c = rw c.anchored_at-from_position.ensures c.args.asked.now.inside
+pub recall-requires-clause-followable : goal.recall-requires-clause-followable
+recall-requires-clause-followable c = record {
+  inside = rw c.anchored_at-from_position.ensures c.args.asked.now.inside;
+  easy = c.follows_freely.ensures.easy c.if-not-follows_freely.false;
+  plain = c.follows_freely.ensures.plain c.if-not-follows_freely.false;
+  places = c.follows_freely.ensures.places c.if-not-follows_freely.false;
+}
 
 pub recall-requires-clause-anchored : goal.recall-requires-clause-anchored
 recall-requires-clause-anchored c = ap (λ (r : Request). r.anchored) c.anchored_at-from_position.ensures
-
-pub recall-requires-clause-plain : goal.recall-requires-clause-plain
-recall-requires-clause-plain c = c.follows_freely.ensures.plain c.if-not-follows_freely.false
 
 pub recall-requires-clause-kept : goal.recall-requires-clause-kept
 recall-requires-clause-kept c =
@@ -21,6 +23,3 @@ pub returns-clause-answer : goal.returns-clause-answer
 returns-clause-answer c =
     rw c.anchored_at-from_position.ensures at (c.in_ok-found.ensures false)
     ∙ attempted c.args.self.now c.args.asked.now c.args.position (c.follows_freely.ensures.easy c.if-not-follows_freely.false) c.requires.tries
-
-pub recall-requires-clause-places : goal.recall-requires-clause-places
-recall-requires-clause-places c = c.follows_freely.ensures.places c.if-not-follows_freely.false

@@ -9,7 +9,7 @@ use Rattle.fancy_search.proofs.program.Program.follow.Goals as goal
 
 pub returns-after-not-serve_on-clause-answer : goal.returns-after-not-serve_on-clause-answer
 returns-after-not-serve_on-clause-answer c on =
-    let easy = parts_of_easy _ _ _ c.requires.easy in
+    let easy = parts_of_easy _ _ _ c.requires.followable.easy in
     rw (easy.1, easy.2) (known _ _ c.args.self.now.compiled
     (λ compiled. rw (c.args.self.now.meant, c.for_search-options.ensures) at (c.in-Ok.ensures.answer _ on compiled.coded)))
 

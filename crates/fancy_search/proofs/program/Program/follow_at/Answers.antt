@@ -12,8 +12,13 @@ use Rattle.fancy_search.proofs.ResultLemmas.{if_ok, if_err}
 use Rattle.fancy_search.proofs.SearchedLemmas.{attempted}
 use Rattle.fancy_search.proofs.program.Program.follow_at.Goals as goal
 
-pub follow-found-requires-clause-inside : goal.follow-found-requires-clause-inside
-follow-found-requires-clause-inside c = rw c.anchored_at-from_position.ensures c.args.asked.now.inside
+pub follow-found-requires-clause-followable : goal.follow-found-requires-clause-followable
+follow-found-requires-clause-followable c = record {
+  inside = rw c.anchored_at-from_position.ensures c.args.asked.now.inside;
+  easy = c.requires.easy;
+  plain = c.requires.plain;
+  places = c.requires.places;
+}
 
 pub follow-found-requires-clause-allowed : goal.follow-found-requires-clause-allowed
 follow-found-requires-clause-allowed c = rw c.anchored_at-from_position.ensures c.requires.allowed

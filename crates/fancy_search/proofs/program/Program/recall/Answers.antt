@@ -11,6 +11,6 @@ find_told-requires-clause-kept c = record {
 
 pub returns : goal.returns
 returns c on =
-    let easy = parts_of_easy _ _ _ c.requires.easy in
+    let easy = parts_of_easy _ _ _ c.requires.followable.easy in
     rw (easy.1, easy.2) (known _ _ c.args.self.now.compiled
     (λ compiled. rw (c.args.self.now.meant, c.for_search-options.ensures) at (c.in_ok-found.ensures _ on compiled.coded)))

@@ -14,14 +14,21 @@ use Rattle.fancy_search.proofs.program.Program.search_easy.Goals as goal
 pub run-requires-clause-kept : goal.run-requires-clause-kept
 run-requires-clause-kept c = if_some_at _ (table_kept c.args.kept.now) (λ k. KeepsTable c.args.self.now c.args.asked.now.haystack.now c.args.asked.now.request.now k (effective_start c.args.asked.now.request.now) c.args.cache.now.runner) c.table-table.ensures c.requires.kept.0
 
-pub follow-requires-clause-plain : goal.follow-requires-clause-plain
-follow-requires-clause-plain c = c.if-is_followed.ensures.plain refl
+pub follow-requires-clause-followable : goal.follow-requires-clause-followable
+follow-requires-clause-followable c = record {
+  inside = c.args.asked.now.inside;
+  easy = c.requires.easy;
+  plain = c.if-is_followed.ensures.plain refl;
+  places = c.if-is_followed.ensures.places refl;
+}
 
-pub follow-requires-clause-places : goal.follow-requires-clause-places
-follow-requires-clause-places c = c.if-is_followed.ensures.places refl
-
-pub search_followed-found-requires-clause-plain : goal.search_followed-found-requires-clause-plain
-search_followed-found-requires-clause-plain c = c.if-is_followed.ensures.plain refl
+pub search_followed-found-requires-clause-followable : goal.search_followed-found-requires-clause-followable
+search_followed-found-requires-clause-followable c = record {
+  inside = c.args.asked.now.inside;
+  easy = c.requires.easy;
+  plain = c.if-is_followed.ensures.plain refl;
+  places = c.if-is_followed.ensures.places refl;
+}
 
 pub returns-then-not-is_steps-clause-served : goal.returns-then-not-is_steps-clause-served
 returns-then-not-is_steps-clause-served c = record {
