@@ -1,5 +1,7 @@
 //! How long searches go on before they leave off.
 
+ghost use Rattle.std.specs.Prelude.{◌≡◌, ◌+◌, ◌-◌, ◌*◌, ◌^◌, ◌<◌, ◌≤◌, true, false};
+
 /// How long searches of one text go on: until they took so many steps together, and the rest of the text would take as many again, at
 /// the rate at which they took them.
 #[derive(Clone, Copy, PartialEq, Eq)]
@@ -14,7 +16,11 @@ pub struct Patience {
 
 impl Patience {
     /// That of the next search, after one that took so many steps.
-    pub fn after(self, steps: usize) -> Patience {
+    pub fn after(self, steps: usize) -> Patience
+        ensures steps { result.steps ≡ self.steps }
+        ensures taken { self.taken + steps < 2 ^ 64 → result.taken ≡ self.taken + steps }
+        ensures first { result.first ≡ self.first }
+    {
         Patience {
             taken: self.taken.saturating_add(steps),
             ..self
@@ -29,7 +35,15 @@ impl Patience {
     /// patience.is_over(700, 100, 5000)     // true: the rest takes more at 11 steps a byte
     /// patience.is_over(700, 4990, 5000)    // false: the rest takes a few
     /// ```
-    pub fn is_over(self, steps: usize, place: usize, end: usize) -> bool {
+    pub fn is_over(self, steps: usize, place: usize, end: usize) -> bool
+        ensures few { self.taken + steps < self.steps → result ≡ false }
+        ensures enough { self.steps ≤ self.taken + steps
+            → self.steps * (place - self.first) ≤ (self.taken + steps) * (end - place)
+            → result ≡ true }
+        ensures short { self.steps * (place - self.first) < 2 ^ 64
+            → (self.taken + steps) * (end - place) < self.steps * (place - self.first)
+            → result ≡ false }
+    {
         let taken = self.taken.saturating_add(steps);
         if taken < self.steps {
             return false;

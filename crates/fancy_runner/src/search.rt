@@ -118,11 +118,40 @@ pub struct Searched {
     pub reached: usize,
 }
 
+impl Searched {
+    /// Nothing starts before this place, a byte offset.
+    fn nothing(reached: usize) -> Searched
+        ensures { result ≡ record { found = None; reached = reached } }
+    {
+        Searched {
+            found: None,
+            reached,
+        }
+    }
+
+    /// A match from a place up to its end, byte offsets.
+    fn at(place: usize, end: usize) -> Searched
+        ensures { result ≡ record
+            { found = Some (record { position = place; start = place; end = end }); reached = place } }
+    {
+        Searched {
+            found: Some(Found {
+                position: place,
+                start: place,
+                end,
+            }),
+            reached: place,
+        }
+    }
+}
+
 /// Whether a search leaves off at a place, after so many steps: where its patience is over, and no more were taken than the code is long
 /// for each position before.
 #[inline(always)]
 fn leaves_off(code: &Code, wanted: &Wanted, steps: usize, place: usize) -> bool
     ensures asked { result ≡ true → is_some wanted.now.patience ≡ true }
+    ensures enough { result ≡ true
+        → IfSome wanted.now.patience (λ p. p.steps ≤ p.taken + steps) }
     ensures paid { result ≡ true → steps
         ≤ code_len code.now * (place - effective_start wanted.now.request) }
 {
@@ -139,8 +168,8 @@ fn leaves_off(code: &Code, wanted: &Wanted, steps: usize, place: usize) -> bool
 
 /// Searches a haystack for the pattern of the code. Found is the first outcome at the least position, from the
 /// effective start on, which has one; its groups then stand in `cache`. With a patience the search may leave off between two positions,
-/// once that is over: then what is asked is to be searched for from the place on that was reached. Easy code has no `\G`, so the answer is the
-/// same with it on and off. Of the options `on_boundaries` and `overrides` are heeded: what is found is the first
+/// once that is over: what is asked is then to be searched for from the place on that was reached. Easy code has no `\G`, so the
+/// answer is the same with it on and off. Of the options `on_boundaries` and `overrides` are heeded: what is found is the first
 /// match and may be empty, and returns have no limit.
 ///
 /// Without `kept` the table in `cache` begins anew, at the effective start. Several searches of one haystack by one code up to one
@@ -181,7 +210,7 @@ pub fn search(
     ensures ended { wanted.patience ≡ None → IfOk result (λ s. IfNone s.found
         (past_tried wanted.request ≤ s.reached)) }
     ensures left_off { IfOk result (λ s. IfNone s.found (s.reached < past_tried wanted.request
-        → LeftOff code.now haystack.now wanted.request s.reached work.old work.new)) }
+        → LeftOff code.now haystack.now wanted s.reached work.old work.new)) }
     ensures kept { IfOk result (λ s. IfSome kept.new
         (λ k. IsKept code.now haystack.now wanted.request wanted.options
         k (place_kept s.found wanted.request) cache.new.notes)) }
@@ -221,27 +250,17 @@ pub fn search(
         (most_steps code.now wanted.request) work.old
         → result ≢ Err SearchRefusal.Steps }
 {
-    let Wanted {
-        request,
-        options,
-        patience: _,
-    } = wanted;
+    let (request, options) = (wanted.request, wanted.options);
     let first = request.effective_start();
     if first > request.range_end {
-        return Ok(Searched {
-            found: None,
-            reached: first,
-        });
+        return Ok(Searched::nothing(first));
     }
     let last = request.last_position();
     let end = request.range_end;
     let mut region = None;
     let mut place = next_opening(&code.prefilter, haystack, end, first, last, &mut region);
     if place > last {
-        return Ok(Searched {
-            found: None,
-            reached: place,
-        });
+        return Ok(Searched::nothing(place));
     }
     let before = kept.take();
     let base = KeptTable::base(before, first);
@@ -262,22 +281,12 @@ pub fn search(
             if let Some(end) = follow_start(&attempt, place, cache, work)? {
                 let from = end + 1;
                 *kept = Some(KeptTable { base, from });
-                return Ok(Searched {
-                    found: Some(Found {
-                        position: place,
-                        start: place,
-                        end,
-                    }),
-                    reached: place,
-                });
+                return Ok(Searched::at(place, end));
             }
         }
         let from = pass_followed(&attempt, place + 1, last, &cache.notes.table);
         place = next_opening(&code.prefilter, haystack, end, from, last, &mut region);
     }
     *kept = Some(KeptTable { base, from: place });
-    Ok(Searched {
-        found: None,
-        reached: place,
-    })
+    Ok(Searched::nothing(place))
 }

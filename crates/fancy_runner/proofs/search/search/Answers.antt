@@ -21,19 +21,21 @@ use Rattle.fancy_runner.specs.declared.notes.Cache.{Cache}
 use Rattle.fancy_runner.proofs.FirstItemLemmas.{followed_passed}
 use Rattle.fancy_runner.proofs.LimitLemmas.{runs_heeded}
 use Rattle.fancy_runner.proofs.search.search.Goals as goal
-use Rattle.fancy_runner.proofs.search.search.Goals.{then-is_match_boundary+in_ok-end+in_default, else-is_match_boundary}
+use Rattle.fancy_runner.proofs.search.search.Goals.{then-is_match_boundary+in_ok-end+in_default, else-is_match_boundary, then-loop-place-test+else-not-leaves_off, else-loop-place-test}
 
 pub returns-then-first-request-clause-answer : goal.returns-then-first-request-clause-answer
 returns-then-first-request-clause-answer c p on is =
+    rw c.nothing.ensures (
     search_over (query_of p c.args.code.now (unfiltered c.args.wanted.options) c.args.haystack.now c.args.wanted.request on) _ _ (omega (arith, c.effective_start-first.ensures, positions_none c.args.wanted.request (omega (arith, c.effective_start-first.ensures))))
-    ∙ sym (search_over (query_of p c.args.code.now (unfiltered c.args.wanted.options) c.args.haystack.now c.args.wanted.request on) _ _ (positions_none c.args.wanted.request (omega (arith, c.effective_start-first.ensures))))
+    ∙ sym (search_over (query_of p c.args.code.now (unfiltered c.args.wanted.options) c.args.haystack.now c.args.wanted.request on) _ _ (positions_none c.args.wanted.request (omega (arith, c.effective_start-first.ensures)))))
 
 pub returns-then-place-last-clause-answer : goal.returns-then-place-last-clause-answer
 returns-then-place-last-clause-answer c p on is =
+    rw c.nothing-then-place-last.ensures (
     search_over (query_of p c.args.code.now (unfiltered c.args.wanted.options) c.args.haystack.now c.args.wanted.request on) _ _ (omega (arith, c.effective_start-first.ensures, c.last_position-last.ensures.count))
     ∙ sym (ap₂ (answer_from (query_of p c.args.code.now (unfiltered c.args.wanted.options) c.args.haystack.now c.args.wanted.request on)) (sym c.last_position-last.ensures.count ∙ ap (λ (n : ℕ). c.last_position-last.result + 1 - n) (sym c.effective_start-first.ensures)) (sym c.effective_start-first.ensures)
     ∙ openings_passed (query_of p c.args.code.now (unfiltered c.args.wanted.options) c.args.haystack.now c.args.wanted.request on) c.args.code.now is refl c.requires.inside (λ k. omega (arith, c.type_inv.haystack k)) (c.last_position-last.result + 1 - c.effective_start-first.result) (0) c.effective_start-first.result c.next_opening-place.result c.next_opening-place.ensures.passed (omega (arith, c.next_opening-place.ensures.within, c.last_position-last.ensures.inside)) (omega (arith, c.next_opening-place.ensures.within, c.next_opening-place.ensures.passed)) c.next_opening-place.ensures.none
-    ∙ search_over (query_of p c.args.code.now (unfiltered c.args.wanted.options) c.args.haystack.now c.args.wanted.request on) 0 _ refl)
+    ∙ search_over (query_of p c.args.code.now (unfiltered c.args.wanted.options) c.args.haystack.now c.args.wanted.request on) 0 _ refl))
 
 pub loop-place-init : goal.loop-place-init
 loop-place-init c =
@@ -59,11 +61,12 @@ loop-place-init c =
 
 pub returns-in-Some-clause-answer : goal.returns-in-Some-clause-answer
 returns-in-Some-clause-answer c p on is =
+    rw c.at.ensures (
     let known = attempt_known (query_of p c.args.code.now (unfiltered c.args.wanted.options) c.args.haystack.now c.args.wanted.request on) c.args.code.now is refl refl refl refl c.requires.inside (search_context c.args.haystack.now c.args.code.now.meaning c.suppressed_ends.result c.base-base.result) (Some c.base-base.result) (ap (λ (s : SuppressedEnds). search_context c.args.haystack.now c.args.code.now.meaning s c.base-base.result) c.suppressed_ends.ensures) c.requires.easy c.loop-place.place (first_thread c.args.code.now c.loop-place.place) refl (omega (arith, c.last_position-last.ensures.inside, c.loop-place-test.true)) in
     let is_answer = attempt_answer (query_of p c.args.code.now (unfiltered c.args.wanted.options) c.args.haystack.now c.args.wanted.request on) c.args.code.now is refl refl refl refl c.requires.inside (search_context c.args.haystack.now c.args.code.now.meaning c.suppressed_ends.result c.base-base.result) (Some c.base-base.result) (ap (λ (s : SuppressedEnds). search_context c.args.haystack.now c.args.code.now.meaning s c.base-base.result) c.suppressed_ends.ensures) c.requires.easy c.loop-place.place (first_thread c.args.code.now c.loop-place.place) refl (omega (arith, c.last_position-last.ensures.inside, c.loop-place-test.true)) (sym c.is_match_boundary.ensures ∙ c.if-is_match_boundary.true) in
     let found = rw c.in-Some.is at (c.in_ok-end.ensures.answer (λ k. omega (arith, c.type_inv.haystack k)) is.branched c.loop-place.place (deep (query_of p c.args.code.now (unfiltered c.args.wanted.options) c.args.haystack.now c.args.wanted.request on) c.args.code.now is refl refl refl refl c.requires.inside (search_context c.args.haystack.now c.args.code.now.meaning c.suppressed_ends.result c.base-base.result) (Some c.base-base.result) (ap (λ (s : SuppressedEnds). search_context c.args.haystack.now c.args.code.now.meaning s c.base-base.result) c.suppressed_ends.ensures))) in
     (sym (c.loop-place.invariant.left p on is
-    ∙ search_hit (query_of p c.args.code.now (unfiltered c.args.wanted.options) c.args.haystack.now c.args.wanted.request on) (c.last_position-last.result + 1 - c.loop-place.place) (c.last_position-last.result + 1 - (c.loop-place.place + 1)) c.loop-place.place (omega (arith, c.loop-place-test.true)) _ (sym is_answer ∙ sym (found known (c.loop-place.invariant.failed p is)))))
+    ∙ search_hit (query_of p c.args.code.now (unfiltered c.args.wanted.options) c.args.haystack.now c.args.wanted.request on) (c.last_position-last.result + 1 - c.loop-place.place) (c.last_position-last.result + 1 - (c.loop-place.place + 1)) c.loop-place.place (omega (arith, c.loop-place-test.true)) _ (sym is_answer ∙ sym (found known (c.loop-place.invariant.failed p is))))))
 
 pub loop-place-preserved : goal.loop-place-preserved
 loop-place-preserved c =
@@ -120,16 +123,22 @@ loop-place-preserved c =
     ]
 
 pub returns-then-first-request-clause-ended : goal.returns-then-first-request-clause-ended
-returns-then-first-request-clause-ended c alone = omega (arith, c.effective_start-first.ensures, positions_none c.args.wanted.request (omega (arith, c.effective_start-first.ensures)))
+returns-then-first-request-clause-ended c alone =
+    rw c.nothing.ensures (
+    omega (arith, c.effective_start-first.ensures, positions_none c.args.wanted.request (omega (arith, c.effective_start-first.ensures))))
 
 pub returns-then-place-last-clause-ended : goal.returns-then-place-last-clause-ended
-returns-then-place-last-clause-ended c alone = omega (arith, c.effective_start-first.ensures, c.last_position-last.ensures.count)
+returns-then-place-last-clause-ended c alone =
+    rw c.nothing-then-place-last.ensures (
+    omega (arith, c.effective_start-first.ensures, c.last_position-last.ensures.count))
 
 pub returns-then-first-request-clause-left_off : goal.returns-then-first-request-clause-left_off
-returns-then-first-request-clause-left_off c early = absurd (omega (arith, early, c.effective_start-first.ensures, positions_none c.args.wanted.request (omega (arith, c.effective_start-first.ensures))))
+returns-then-first-request-clause-left_off c =
+    rw c.nothing.ensures (λ early. absurd (omega (arith, early, c.effective_start-first.ensures, positions_none c.args.wanted.request (omega (arith, c.effective_start-first.ensures)))))
 
 pub returns-then-place-last-clause-left_off : goal.returns-then-place-last-clause-left_off
-returns-then-place-last-clause-left_off c early = absurd (omega (arith, early, c.effective_start-first.ensures, c.last_position-last.ensures.count))
+returns-then-place-last-clause-left_off c =
+    rw c.nothing-then-place-last.ensures (λ early. absurd (omega (arith, early, c.effective_start-first.ensures, c.last_position-last.ensures.count)))
 
 pub ready_table-requires-clause-begins : goal.ready_table-requires-clause-begins
 ready_table-requires-clause-begins c = kept_begins c.args.code.now c.args.haystack.now c.args.wanted.request c.args.wanted.options c.effective_start-first.result c.base-base.result c.suppressed_ends.result c.effective_start-first.ensures c.suppressed_ends.ensures c.args.kept.now c.args.cache.now.notes c.requires.kept (c.base-base.ensures ∙ ap (λ (o : Option KeptTable). base_of o c.effective_start-first.result) c.take-before.ensures.value)
@@ -158,51 +167,53 @@ returns-in-Some-clause-bounded c =
 
 pub returns-in-Some-clause-spent : goal.returns-in-Some-clause-spent
 returns-in-Some-clause-spent c =
+    rw c.at.ensures (
     let after = ahead_after c.args.code.now c.args.haystack.now c.args.wanted.request c.args.wanted.options c.effective_start-first.result c.base-base.result c.suppressed_ends.result c.effective_start-first.ensures c.suppressed_ends.ensures c.loop-place.place c.in-Some.end c.follow_start.new.cache.notes.table ((rw c.in-Some.is at c.in_ok-end.ensures.attempted.ends).0) in
     let same = ap (λ (b : ℕ). steps_ahead c.args.code.now c.args.wanted.request b c.in-Some.end c.follow_start.new.cache.notes.table) ((c.base-base.ensures ∙ ap (λ (o : Option KeptTable). base_of o c.effective_start-first.result) c.take-before.ensures.value) ∙ ap (base_of c.args.kept.now) c.effective_start-first.ensures) in
-    omega (arith, after, same, c.follow_start.ensures.attempted.ran.paid, c.loop-place.invariant.spent, again_paid c.args.kept.now c.args.code.now (effective_start c.args.wanted.request))
+    omega (arith, after, same, c.follow_start.ensures.attempted.ran.paid, c.loop-place.invariant.spent, again_paid c.args.kept.now c.args.code.now (effective_start c.args.wanted.request)))
 
 pub returns-then-first-request-clause-passed : goal.returns-then-first-request-clause-passed
 returns-then-first-request-clause-passed c =
-    omega (arith, fewer_ahead c.args.kept.now c.args.code.now c.args.wanted.request (effective_start c.args.wanted.request) (effective_start c.args.wanted.request + positions c.args.wanted.request) (table_in c.args.cache.now) (omega arith))
+    rw c.nothing.ensures (
+    omega (arith, fewer_ahead c.args.kept.now c.args.code.now c.args.wanted.request (effective_start c.args.wanted.request) (effective_start c.args.wanted.request + positions c.args.wanted.request) (table_in c.args.cache.now) (omega arith)))
 
 pub returns-then-place-last-clause-passed : goal.returns-then-place-last-clause-passed
 returns-then-place-last-clause-passed c =
-    omega (arith, fewer_ahead c.args.kept.now c.args.code.now c.args.wanted.request (effective_start c.args.wanted.request) (effective_start c.args.wanted.request + positions c.args.wanted.request) (table_in c.args.cache.now) (omega arith))
+    rw c.nothing-then-place-last.ensures (
+    omega (arith, fewer_ahead c.args.kept.now c.args.code.now c.args.wanted.request (effective_start c.args.wanted.request) (effective_start c.args.wanted.request + positions c.args.wanted.request) (table_in c.args.cache.now) (omega arith)))
 
 pub returns-then-first-request-clause-kept : goal.returns-then-first-request-clause-kept
 returns-then-first-request-clause-kept c =
-    told_later c.args.code.now c.args.haystack.now c.args.wanted.request c.args.wanted.options c.args.kept.now (effective_start c.args.wanted.request) (effective_start c.args.wanted.request + (positions c.args.wanted.request - 1)) c.args.cache.now.notes (omega arith) c.requires.kept
+    rw c.nothing.ensures (
+    told_later c.args.code.now c.args.haystack.now c.args.wanted.request c.args.wanted.options c.args.kept.now (effective_start c.args.wanted.request) (effective_start c.args.wanted.request + (positions c.args.wanted.request - 1)) c.args.cache.now.notes (omega arith) c.requires.kept)
 
 pub returns-then-place-last-clause-kept : goal.returns-then-place-last-clause-kept
 returns-then-place-last-clause-kept c =
-    told_later c.args.code.now c.args.haystack.now c.args.wanted.request c.args.wanted.options c.args.kept.now (effective_start c.args.wanted.request) (effective_start c.args.wanted.request + (positions c.args.wanted.request - 1)) c.args.cache.now.notes (omega arith) c.requires.kept
+    rw c.nothing-then-place-last.ensures (
+    told_later c.args.code.now c.args.haystack.now c.args.wanted.request c.args.wanted.options c.args.kept.now (effective_start c.args.wanted.request) (effective_start c.args.wanted.request + (positions c.args.wanted.request - 1)) c.args.cache.now.notes (omega arith) c.requires.kept)
 
-pub returns-after-loop-place-clause-kept : goal.returns-after-loop-place-clause-kept
-returns-after-loop-place-clause-kept c =
+pub returns-clause-kept : goal.returns-clause-kept
+returns-clause-kept c =
+    rw c.nothing-2.ensures (
     let based : c.base-base.result ≤ c.effective_start-first.result = kept_begins c.args.code.now c.args.haystack.now c.args.wanted.request c.args.wanted.options c.effective_start-first.result c.base-base.result c.suppressed_ends.result c.effective_start-first.ensures c.suppressed_ends.ensures c.args.kept.now c.args.cache.now.notes c.requires.kept (c.base-base.ensures ∙ ap (λ (o : Option KeptTable). base_of o c.effective_start-first.result) c.take-before.ensures.value) in
     kept_after c.args.code.now c.args.haystack.now c.args.wanted.request c.args.wanted.options c.effective_start-first.result c.base-base.result c.suppressed_ends.result c.effective_start-first.ensures c.suppressed_ends.ensures c.args.kept.now c.loop-place.place (effective_start c.args.wanted.request + (positions c.args.wanted.request - 1)) _ (c.base-base.ensures ∙ ap (λ (o : Option KeptTable). base_of o c.effective_start-first.result) c.take-before.ensures.value) (omega (arith, based, c.effective_start-first.ensures)) (omega (arith, c.loop-place.invariant.within, c.last_position-last.ensures.count))
-    c.loop-place.invariant.room c.loop-place.invariant.small c.loop-place.invariant.failed c.loop-place.invariant.worked.last_lines
-
-pub returns-else-not-leaves_off-clause-kept : goal.returns-else-not-leaves_off-clause-kept
-returns-else-not-leaves_off-clause-kept c =
-    let based : c.base-base.result ≤ c.effective_start-first.result = kept_begins c.args.code.now c.args.haystack.now c.args.wanted.request c.args.wanted.options c.effective_start-first.result c.base-base.result c.suppressed_ends.result c.effective_start-first.ensures c.suppressed_ends.ensures c.args.kept.now c.args.cache.now.notes c.requires.kept (c.base-base.ensures ∙ ap (λ (o : Option KeptTable). base_of o c.effective_start-first.result) c.take-before.ensures.value) in
-    kept_after c.args.code.now c.args.haystack.now c.args.wanted.request c.args.wanted.options c.effective_start-first.result c.base-base.result c.suppressed_ends.result c.effective_start-first.ensures c.suppressed_ends.ensures c.args.kept.now c.loop-place.place (effective_start c.args.wanted.request + (positions c.args.wanted.request - 1)) _ (c.base-base.ensures ∙ ap (λ (o : Option KeptTable). base_of o c.effective_start-first.result) c.take-before.ensures.value) (omega (arith, based, c.effective_start-first.ensures)) (omega (arith, c.loop-place.invariant.within, c.last_position-last.ensures.count))
-    c.loop-place.invariant.room c.loop-place.invariant.small c.loop-place.invariant.failed c.loop-place.invariant.worked.last_lines
+    c.loop-place.invariant.room c.loop-place.invariant.small c.loop-place.invariant.failed c.loop-place.invariant.worked.last_lines)
 
 pub returns-in-Some-clause-left : goal.returns-in-Some-clause-left
 returns-in-Some-clause-left c =
-    ap (λ (b : ℕ). Some (record { base = b; from = c.in-Some.end + 1 })) ((c.base-base.ensures ∙ ap (λ (o : Option KeptTable). base_of o c.effective_start-first.result) c.take-before.ensures.value) ∙ ap (base_of c.args.kept.now) c.effective_start-first.ensures)
+    rw c.at.ensures (
+    ap (λ (b : ℕ). Some (record { base = b; from = c.in-Some.end + 1 })) ((c.base-base.ensures ∙ ap (λ (o : Option KeptTable). base_of o c.effective_start-first.result) c.take-before.ensures.value) ∙ ap (base_of c.args.kept.now) c.effective_start-first.ensures))
 
 pub returns-in-Some-clause-kept : goal.returns-in-Some-clause-kept
 returns-in-Some-clause-kept c =
+    rw c.at.ensures (
     kept_after c.args.code.now c.args.haystack.now c.args.wanted.request c.args.wanted.options c.effective_start-first.result c.base-base.result c.suppressed_ends.result c.effective_start-first.ensures c.suppressed_ends.ensures c.args.kept.now (c.in-Some.end + 1) c.in-Some.end _ (c.base-base.ensures ∙ ap (λ (o : Option KeptTable). base_of o c.effective_start-first.result) c.take-before.ensures.value) (omega (arith, c.loop-place.invariant.begins, (rw c.in-Some.is at c.in_ok-end.ensures.attempted.ends).0)) (omega arith)
     (c.follow_start.ensures.attempted.ran.worked.room ∙ c.loop-place.invariant.room)
     (omega (arith, c.follow_start.ensures.attempted.ran.worked.room, c.loop-place.invariant.small))
     (λ p is q i seen hit. (rw c.in-Some.is at c.in_ok-end.ensures.left) is.branched c.loop-place.place (depth (length c.args.haystack.now) p + 1)
     (attempt_known (query_of p c.args.code.now (unfiltered c.args.wanted.options) c.args.haystack.now c.args.wanted.request true) c.args.code.now is refl refl refl refl c.requires.inside (search_context c.args.haystack.now c.args.code.now.meaning c.suppressed_ends.result c.base-base.result) (Some c.base-base.result) (ap (λ (s : SuppressedEnds). search_context c.args.haystack.now c.args.code.now.meaning s c.base-base.result) c.suppressed_ends.ensures) c.requires.easy c.loop-place.place (first_thread c.args.code.now c.loop-place.place) refl (omega (arith, c.last_position-last.ensures.inside, c.loop-place-test.true))) (c.loop-place.invariant.failed p is)
     q i ((seen.0.0, omega (arith, seen.0.1, (rw c.in-Some.is at c.in_ok-end.ensures.attempted.ends).0), seen.0.2), seen.1) (omega (arith, seen.0.1)) hit)
-    c.follow_start.ensures.attempted.ran.worked.last_lines
+    c.follow_start.ensures.attempted.ran.worked.last_lines)
 
 pub returns-in_err-end-clause-idle : goal.returns-in_err-end-clause-idle
 returns-in_err-end-clause-idle c none = absurd (c.loop-place.invariant.starts (omega (arith, c.loop-place-test.true)) none)
@@ -230,3 +241,27 @@ follow_start-requires c = record {
     high = omega (arith, c.last_position-last.ensures.inside, c.loop-place-test.true);
   };
 }
+
+pub returns-clause-answer : goal.returns-clause-answer
+returns-clause-answer c p on is =
+    rw c.nothing-2.ensures (
+    ap (λ (n : ℕ). answer_from (query_of p c.args.code.now (unfiltered c.args.wanted.options) c.args.haystack.now c.args.wanted.request on) n c.loop-place.place) (omega (arith, c.effective_start-first.ensures, c.last_position-last.ensures.count, c.loop-place.invariant.passed, c.loop-place.invariant.within))
+    ∙ sym (c.loop-place.invariant.left p on is))
+
+pub returns-clause-left_off : goal.returns-clause-left_off
+returns-clause-left_off c =
+    rw c.nothing-2.ensures (λ early.
+    elim c.loop-place-test.branch [
+      | then-loop-place-test+else-not-leaves_off w ↦ record {
+        enough = rw (w.steps.ensures, c.steps-begun.ensures) at (w.leaves_off.ensures.enough w.if-not-leaves_off.false);
+        paid = omega (arith, w.leaves_off.ensures.paid w.if-not-leaves_off.false, w.steps.ensures, c.steps-begun.ensures);
+        starts = c.loop-place.invariant.starts (omega (arith, w.loop-place-test.true));
+      }
+      | else-loop-place-test w ↦ absurd (omega (arith, early, w.loop-place-test.false, c.effective_start-first.ensures, c.last_position-last.ensures.count))
+    ])
+
+pub returns-clause-passed : goal.returns-clause-passed
+returns-clause-passed c =
+    rw c.nothing-2.ensures (
+    let after = ahead_after c.args.code.now c.args.haystack.now c.args.wanted.request c.args.wanted.options c.effective_start-first.result c.base-base.result c.suppressed_ends.result c.effective_start-first.ensures c.suppressed_ends.ensures c.loop-place.place (effective_start c.args.wanted.request + positions c.args.wanted.request) c.loop-place.cache.notes.table (omega (arith, c.loop-place.invariant.within, c.last_position-last.ensures.count)) in
+    omega (arith, after, c.loop-place.invariant.spent))
