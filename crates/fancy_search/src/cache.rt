@@ -6,9 +6,10 @@ ghost use Rattle.fancy_states.specs.Remembered.{Remembers};
 ghost use Rattle.fancy_code.specs.declared.code.Code.{Code};
 ghost use Rattle.fancy_input.specs.Work.{steps_of, returns_of, units_of};
 
-use crate::following::{LONG, SHORT, WORTH};
+use crate::following::{SHORT, TABLE, WORTH};
 use crate::read_past::ReadPast;
 use fancy_bytes::lacking::KnownBytes;
+use fancy_input::input::Request;
 use fancy_input::span::Span;
 use fancy_input::work::Work;
 use fancy_machine::search as machine;
@@ -40,7 +41,7 @@ pub enum Kept {
     Nothing,
     /// The runner's table, if the runner left one. It serves the next search too.
     Runner(Option<KeptTable>),
-    /// Nothing, by the runner: it serves so long, and then the automaton.
+    /// Nothing. The runner serves for so long, and then the automaton.
     Begun(Patience),
     /// The steps that the automaton remembers.
     Steps,
@@ -49,7 +50,7 @@ pub enum Kept {
 }
 
 impl Kept {
-    ghost use Rattle.fancy_search.specs.KeptTables.{table_kept};
+    ghost use Rattle.fancy_search.specs.KeptTables.{is_steps, table_kept};
 
     /// The table, if one is kept.
     pub(crate) fn table(self) -> Option<KeptTable>
@@ -80,15 +81,19 @@ impl Kept {
     }
 
     /// Whether steps are kept.
-    pub(crate) fn is_steps(self) -> bool {
+    pub(crate) fn is_steps(self) -> bool
+        ensures { result ≡ is_steps self }
+    {
         matches!(self, Kept::Steps)
     }
 
-    /// How long the runner serves before the automaton does, from a search on that goes from `first` up to `end`, byte offsets. `None`
-    /// where it does not.
-    pub(crate) fn patience(self, first: usize, end: usize) -> Option<Patience> {
+    /// How long the runner serves before the automaton does, from a search for this on, with code of so many marks. `None` where it does
+    /// not: its patience is over, or its table would be large.
+    pub(crate) fn patience(self, request: Request, marks: usize) -> Option<Patience> {
+        let (first, end) = (request.effective_start(), request.range_end);
+        let bits = end.saturating_sub(first).saturating_mul(marks);
         match self {
-            Kept::Nothing if end.saturating_sub(first) <= LONG => Some(Patience {
+            Kept::Nothing if bits <= TABLE => Some(Patience {
                 steps: WORTH,
                 taken: 0,
                 first,

@@ -16,8 +16,8 @@ pub(crate) const WORTH: usize = 512;
 /// In a text of fewer bytes the runner serves alone.
 pub(crate) const SHORT: usize = 256;
 
-/// In a text of more bytes the runner does not begin: it would ask for a table of all of them.
-pub(crate) const LONG: usize = 16_777_216;
+/// The runner does not begin where its table would have more bits: it asks for all of them at once, one MiB here.
+pub(crate) const TABLE: usize = 8_388_608;
 
 /// A set with that many ASCII characters is wide, as `[a-z]` is.
 const WIDE_SET: usize = 26;

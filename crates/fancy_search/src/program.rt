@@ -74,8 +74,8 @@ const SHORT_HAYSTACK: usize = 256;
 /// A pattern that was read and compiled under options.
 ///
 /// Which engine serves its searches is decided once: the memoised runner an easy pattern, and the backtracking machine a
-/// hard one. An easy pattern whose code an automaton follows is served by that in a text that is not short, where the runner would make
-/// many attempts or long ones. One whose code is straight needs no engine: its items are read where a match may begin, and those of a
+/// hard one. Where the runner would make many attempts or long ones, it begins a search of a text that is not short, and an automaton goes
+/// on with it, if that follows the code. One whose code is straight needs no engine: its items are read where a match may begin, and those of a
 /// loop at its end after them.
 pub struct Program {
     options: Options,
@@ -396,40 +396,14 @@ impl Program {
         ensures refused { IfErr result (λ e. e ≡ Error.Memory) }
     {
         let mut request = request;
-        if let Some(patience) = Kept::Nothing.patience(
-            request.effective_start(),
-            request.range_end,
-        ) {
+        let mut kept = Kept::Nothing;
+        if let Some(patience) = kept.patience(request, self.code.marks()) {
             let mut cache = runner::Cache::new(*self.text.allocator());
             match self.begin(haystack, request, patience, &mut cache, work)? {
                 Begun::Ended(found) => return Ok(found),
                 Begun::Left(rest) => request = rest,
             }
         }
-        self.find_by_steps(haystack, request, work)
-    }
-
-    /// The same by the automaton.
-    #[inline(never)]
-    fn find_by_steps(
-        &self,
-        haystack: &[u8],
-        request: Request,
-        work: &mut Work,
-    ) -> Result<Option<Found>>
-        requires followable { IsFollowable self.now haystack.now request }
-        requires paired { returns_of work.old ≤ steps_of work.old }
-        requires allowed { AllowsAllSteps self.now request work.old }
-        ensures answer { IfOk result (λ m. (on : Bool)
-            → answer_with (replicate (program_groups self.now) None) m
-            ≡ search (asked_of self.now haystack.now request on)) }
-        ensures counts { KeepsCounts self.now result work.old work.new }
-        ensures idle { (on : Bool) → NoneTried (program_options self.now).seek
-            (asked_of self.now haystack.now request on) → steps_of work.new ≡ steps_of work.old }
-        ensures bounded { steps_of work.new ≤ steps_of work.old + step_bound self.now request }
-        ensures refused { IfErr result (λ e. e ≡ Error.Memory) }
-    {
-        let mut kept = Kept::Nothing;
         let mut steps = RememberedSteps::new(*self.text.allocator());
         self.follow(haystack, request, &mut kept, &mut steps, work)
     }
@@ -582,7 +556,7 @@ impl Program {
         ensures apart { cache.new.machine ≡ cache.old.machine }
     {
         let mut request = request;
-        if let Some(patience) = kept.patience(request.effective_start(), request.range_end) {
+        if let Some(patience) = kept.patience(request, self.code.marks()) {
             let before = work.steps();
             cache.served = Engine::Runner;
             match self.begin(haystack, request, patience, &mut cache.runner, work)? {
@@ -597,8 +571,8 @@ impl Program {
         self.follow(haystack, request, kept, &mut cache.steps, work)
     }
 
-    /// The search for an easy pattern by the runner, as long as its patience lasts. It takes no more steps than are no longer ahead of
-    /// what it leaves.
+    /// The search for an easy pattern by the runner, as long as its patience lasts. What it leaves has the same answer, and its steps and
+    /// those that the rest may take are together no more than those of one search.
     #[inline(never)]
     fn begin(
         &self,
@@ -1029,24 +1003,25 @@ impl Program {
             (λ _. AllowsAttempt self.now (query_in self.now asked.now) position) }
     {
         let from_position = anchored_at(*asked.request, position);
-        let (first, end) = (from_position.effective_start(), from_position.range_end);
         let followed = self.is_followed_at(asked, from_position, &notes.kept, work);
-        let patience = notes.kept.patience(first, end);
+        let patience = if followed {
+            notes.kept.patience(from_position, self.code.marks())
+        } else {
+            None
+        };
         if followed && patience.is_none() {
             return self.follow_at(asked, position, notes, &mut cache.engines, work);
         }
         let before = work.steps();
         let found = self.attempt_at(asked, position, notes, cache, work);
         if let Some(patience) = patience {
-            if followed {
-                notes.kept = Kept::Begun(patience.after(work.steps() - before));
-            }
+            notes.kept = Kept::Begun(patience.after(work.steps() - before));
         }
         found
     }
 
-    /// Whether the automaton serves attempts of a list: where it follows the code. That is so from the first one on or never, and no
-    /// longer once it was not.
+    /// Whether the automaton may serve an attempt of a list: where it follows the code, the text is not short, and the limit of steps allows
+    /// all. That is so from the first attempt on or never, and no longer once it was not.
     fn is_followed_at(
         &self,
         asked: &Asked<'_>,

@@ -17,11 +17,11 @@ returns-clause-answer c =
       | in-Some+in_ok-found+in-Left w ↦ rw w.request-is ((rw w.in-Left.is at w.in_ok-found.ensures.begun).same on on)
       | in_default w ↦ rw w.request-is refl
     ] in
-    if_ok _ _ (λ m is. (replicate (program_groups c.args.self.now) None, λ on. is on ∙ same on)) c.find_by_steps.result c.find_by_steps.ensures.answer
+    if_ok _ _ (λ m is. (replicate (program_groups c.args.self.now) None, λ on. is on ∙ same on)) c.follow.result c.follow.ensures.answer
 
 pub returns-clause-idle : goal.returns-clause-idle
 returns-clause-idle c on none =
     elim c.match-patience.branch [
       | in-Some+in_ok-found+in-Left w ↦ absurd ((rw w.in-Left.is at w.in_ok-found.ensures.begun).tried on none)
-      | in_default w ↦ c.find_by_steps.ensures.idle on (rw w.request-is none) ∙ ap steps_of w.work-is
+      | in_default w ↦ c.follow.ensures.idle on (rw w.request-is none) ∙ ap steps_of w.work-is
     ]
