@@ -15,7 +15,7 @@ ghost use Rattle.fancy_states.specs.Counts.{AddsSteps};
 
 use crate::follow::{Sole, follow, follow_any, next_start};
 use crate::hop::{Stand, row_start, run};
-use crate::told::is_wide_at;
+use crate::told::{is_wide_at, told_at};
 use fancy_alphabet::sight::{Sight, ascii_at};
 use fancy_code::attempt::Attempt;
 use fancy_code::code::Code;
@@ -28,6 +28,7 @@ use fancy_states::trail::{
     Hit, Trail, VISITS, Visit, hit_from, note_hit, row_at, settled, shared_start, span_of,
     start_at, starts_in,
 };
+use fancy_states::transitions::Entry;
 use std::alloc::AllocError;
 use std::mem;
 
@@ -300,11 +301,29 @@ impl Front {
         Ok(to.place)
     }
 
+    /// Whether the table tells the step at a place.
+    fn is_told(&self, attempt: &Attempt, cells: &Cells, place: usize) -> bool
+        requires { Stands attempt.now cells.now self.now place }
+    {
+        if place >= attempt.last {
+            return false;
+        }
+        let row = row_at(self.hit, self.next, self.begun);
+        let start = row_start(attempt, cells, place, row);
+        match told_at(attempt, cells.table.view(), start, place, true) {
+            None => false,
+            Some(told) => !matches!(told.entry, Entry::Unknown),
+        }
+    }
+
     /// Takes steps on ASCII characters that the table tells. The answer is the place where the ways wait then, a byte offset.
     fn hop(&mut self, attempt: &Attempt, cells: &Cells, place: usize) -> Result<usize, AllocError>
         requires stands { Stands attempt.now cells.now self.old place }
         ensures { GoesOn attempt.now cells.now self.old place attempt.now.last result self.new }
     {
+        if !self.is_told(attempt, cells, place) {
+            return Ok(place);
+        }
         let followed = self.follow(attempt, cells, place)?;
         if followed > place {
             return Ok(followed);

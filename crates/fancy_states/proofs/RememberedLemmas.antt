@@ -17,8 +17,7 @@ use Rattle.std.proofs.lemmas.Bool.Decides.{nat_tests}
 use Rattle.fancy_states.specs.declared.origin.Origin.{Origin}
 use Rattle.fancy_states.specs.declared.origin.Origin.TheVariants.{Earlier, Last, Mixed}
 use Rattle.fancy_states.specs.Origins.{ComeFrom, come_from, match_passes}
-use Rattle.std.proofs.Props.{props}
-use Rattle.fancy_states.specs.Cells.{HasRow, IsBounded, IsCellOf, IsFor, ways_at}
+use Rattle.fancy_states.specs.Cells.{HasRow, IsCellOf, IsFor, ways_at}
 use Rattle.fancy_states.specs.Remembered.{ways_from, IsKnownAt, IsStepEach, IsRemembered, Remembers}
 use Rattle.fancy_states.proofs.CellLemmas.{row_ways, row_within}
 

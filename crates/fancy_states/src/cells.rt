@@ -12,11 +12,10 @@ ghost use Rattle.fancy_states.specs.Cells.{KeepsRows, KeepsCells, HasRow, HasCel
 ghost use Rattle.fancy_states.specs.Counts.{AddsSteps, PaysFor};
 
 use crate::join::{Begun, joined};
-use crate::marks::Marks;
 use crate::origin::{Origin, origin_of};
 use crate::rows::{Rows, Target, copied, intern, target_of};
 use crate::slots::{NOTHING, slot_at};
-use crate::step::{Step, step_from};
+use crate::step::{Scratch, Step, step_from};
 use crate::trail::Trail;
 use crate::transitions::{Entry, Transition, Transitions};
 use crate::way::Way;
@@ -100,8 +99,8 @@ pub struct Cells {
     pub spare: Trail,
     /// The place where the last search stopped reading, a byte offset.
     pub reached: usize,
-    /// The marks of the last step that was computed, whose memory the next one takes over.
-    pub marks: Marks,
+    /// Where the last step was computed.
+    scratch: Scratch,
 }
 
 impl Cells {
@@ -123,7 +122,7 @@ impl Cells {
             room: ROOM,
             spare: Trail::new(alloc),
             reached: 0,
-            marks: Marks::new(alloc),
+            scratch: Scratch::new(alloc),
         }
     }
 
@@ -490,7 +489,7 @@ fn step_of(
     cells: &Cells,
     row: usize,
     sight: Sight,
-    marks: &mut Marks,
+    scratch: &mut Scratch,
     work: &mut Work,
 ) -> Result<Step, AllocError>
     requires row { row < length cells.now.rows.lists.items }
@@ -502,18 +501,25 @@ fn step_of(
 {
     let ways = cells.rows.lists[row].as_slice();
     let Some(k) = begun_cell(code, cells, ways, sight) else {
-        let step = step_from(cells.alloc, code, ways, sight, marks, work)?;
+        let step = step_from(cells.alloc, code, ways, sight, scratch, work)?;
         return Ok(step);
     };
     let before = work.steps();
     let others = &ways[..ways.len() - 1];
-    let first = step_from(cells.alloc, code, others, sight, marks, work)?;
+    let first = step_from(cells.alloc, code, others, sight, scratch, work)?;
     let cell = &cells.cells[k];
     let begun = Begun {
         ats: &cells.rows.lists[cell.next],
         matched: cell.matched,
     };
-    let step = joined(cells.alloc, code, others.len(), first, begun, marks)?;
+    let step = joined(
+        cells.alloc,
+        code,
+        others.len(),
+        first,
+        begun,
+        &mut scratch.marks,
+    )?;
     count_up(work, before.saturating_add(step.next.len().min(code.len())));
     Ok(step)
 }
@@ -542,9 +548,9 @@ pub fn step_at(
     if let Some(k) = remembered(cells, row, sight) {
         return Ok(k);
     }
-    let mut marks = mem::replace(&mut cells.marks, Marks::new(cells.alloc));
-    let step = step_of(code, cells, row, sight, &mut marks, work)?;
-    cells.marks = marks;
+    let mut scratch = mem::replace(&mut cells.scratch, Scratch::new(cells.alloc));
+    let step = step_of(code, cells, row, sight, &mut scratch, work)?;
+    cells.scratch = scratch;
     let cell = computed(cells.alloc, code, &mut cells.rows, row, sight, step)?;
     let k = cells.cells.len();
     cells.held = cells.held.saturating_add(cell.came.len());
@@ -564,15 +570,12 @@ pub fn restart(cells: &mut Cells, start: usize, row: usize) -> Result<Target, Al
     ensures within { IsBounded cells.new }
     ensures place { IfOk result (λ _. HasPlace cells.new) }
 {
-    let ways = copied(cells.alloc, &cells.rows.lists[row])?;
-    let mut more = copied(cells.alloc, &ways)?;
-    more.push(start)?;
-    let mut first = Vec::with_capacity(cells.alloc, 1)?;
-    first.push(start)?;
+    let mut ways = copied(cells.alloc, &cells.rows.lists[row])?;
     cells.forget();
-    let alone = intern(cells.alloc, &mut cells.rows, first)?;
+    let alone = intern(cells.alloc, &mut cells.rows, &[start])?;
     cells.alone = alone;
-    let next = intern(cells.alloc, &mut cells.rows, ways)?;
-    let begun = intern(cells.alloc, &mut cells.rows, more)?;
+    let next = intern(cells.alloc, &mut cells.rows, &ways)?;
+    ways.push(start)?;
+    let begun = intern(cells.alloc, &mut cells.rows, &ways)?;
     Ok(Target { next, begun })
 }

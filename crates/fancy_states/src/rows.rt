@@ -1,12 +1,13 @@
 //! Rows of waiting instructions, each with a number.
 
-ghost use Rattle.std.specs.Prelude.{◌≡◌, [], ◌∷◌, true, IfOk, IfSome, map};
+ghost use Rattle.std.specs.Prelude.{◌≡◌, [], ◌∷◌, true, IfOk, IfSome, OnOk, map};
 ghost use Rattle.fancy_states.specs.Steps.{at_of};
 ghost use Rattle.fancy_states.specs.Cells.{HasRow, GrowsBy, HasRows};
 
 use crate::hints::Hints;
 use crate::way::Way;
 use std::alloc::{AllocError, Global};
+use std::mem;
 
 /// Rows of instructions, each in order of preference.
 #[derive(Drop)]
@@ -19,6 +20,8 @@ pub struct Rows {
     pub nothing: usize,
     /// How many instructions all rows have together.
     pub held: usize,
+    /// The row that was looked for last, whose memory the next one takes over.
+    sought: Vec<usize>,
 }
 
 impl Rows {
@@ -31,6 +34,7 @@ impl Rows {
             names: Hints::new(alloc),
             nothing: 0,
             held: 0,
+            sought: Vec::new(alloc),
         }
     }
 
@@ -128,32 +132,40 @@ fn name_row(
     Ok(())
 }
 
-/// The number of a row with these instructions: one that a hint leads to, or else a new one.
-pub fn intern(alloc: Global, rows: &mut Rows, ways: Vec<usize>) -> Result<usize, AllocError>
-    ensures rows { GrowsBy 1 rows.old.lists.items rows.new.lists.items }
-    ensures row { IfOk result (λ r. HasRow rows.new.lists.items r ways.items) }
+/// The instructions of a row, once more.
+pub fn copied(alloc: Global, ways: &[usize]) -> Result<Vec<usize>, AllocError>
+    ensures { IfOk result (λ copy. copy.items ≡ ways.now) }
 {
-    let key = row_key(&ways);
-    if let Some(r) = named_row(rows, key, &ways) {
+    ways.to_vec(alloc)
+}
+
+/// The number of a row with these instructions: one that a hint leads to, or else a new one.
+pub fn intern(alloc: Global, rows: &mut Rows, ways: &[usize]) -> Result<usize, AllocError>
+    ensures rows { GrowsBy 1 rows.old.lists.items rows.new.lists.items }
+    ensures row { IfOk result (λ r. HasRow rows.new.lists.items r ways.now) }
+{
+    let key = row_key(ways);
+    if let Some(r) = named_row(rows, key, ways) {
         return Ok(r);
     }
     let r = rows.lists.len();
     rows.nothing = if ways.len() == 0 { r } else { rows.nothing };
     rows.held = rows.held.saturating_add(ways.len());
-    rows.lists.push(ways)?;
+    let row = copied(alloc, ways)?;
+    rows.lists.push(row)?;
     name_row(alloc, &mut rows.names, &rows.lists, key, r)?;
     Ok(r)
 }
 
-/// The instructions of the ways, with room for one more.
-fn instructions(alloc: Global, next: &[Way]) -> Result<Vec<usize>, AllocError>
-    ensures { IfOk result (λ ways. ways.items ≡ map at_of next.now) }
+/// Puts the instructions of the ways in place of those that are there.
+fn gather(ways: &mut Vec<usize>, next: &[Way]) -> Result<(), AllocError>
+    ensures { OnOk result (ways.new.items ≡ map at_of next.now) }
 {
-    let mut ways = Vec::with_capacity(alloc, next.len().saturating_add(1))?;
+    ways.clear();
     for way in next {
         ways.push(way.at)?;
     }
-    Ok(ways)
+    Ok(())
 }
 
 /// Two rows: one of ways, and the same with one more way, which begins there.
@@ -176,17 +188,11 @@ pub fn target_of(
     ensures leads { IfOk result (λ t.
         HasRows rows.new.lists.items t.next t.begun (map at_of next.now) start) }
 {
-    let ways = instructions(alloc, next)?;
-    let mut more = instructions(alloc, next)?;
-    more.push(start)?;
-    let next = intern(alloc, rows, ways)?;
-    let begun = intern(alloc, rows, more)?;
+    let mut ways = mem::replace(&mut rows.sought, Vec::new(alloc));
+    gather(&mut ways, next)?;
+    let next = intern(alloc, rows, &ways)?;
+    ways.push(start)?;
+    let begun = intern(alloc, rows, &ways)?;
+    rows.sought = ways;
     Ok(Target { next, begun })
-}
-
-/// The instructions of a row, once more.
-pub fn copied(alloc: Global, ways: &[usize]) -> Result<Vec<usize>, AllocError>
-    ensures { IfOk result (λ copy. copy.items ≡ ways.now) }
-{
-    ways.to_vec(alloc)
 }

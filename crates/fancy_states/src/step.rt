@@ -1,6 +1,6 @@
 //! One place of a search.
 
-ghost use Rattle.std.specs.Prelude.{◌≡◌, ◌≤◌, IfOk, reverse, length};
+ghost use Rattle.std.specs.Prelude.{◌≡◌, ◌≤◌, IfOk, OnOk, reverse, length};
 ghost use Rattle.fancy_code.specs.CodeLength.{code_len};
 ghost use Rattle.fancy_states.specs.Steps.{waiting, IsStepOn};
 ghost use Rattle.fancy_states.specs.Counts.{AddsSteps, PaysFor};
@@ -23,28 +23,50 @@ pub struct Step {
     pub matched: Option<usize>,
 }
 
-/// Puts the ways on a stack, the first one on top.
-fn load(alloc: Global, ways: &[usize]) -> Result<Vec<Way>, AllocError>
-    ensures { IfOk result (λ stack. reverse stack.items ≡ waiting 0 ways.now) }
+/// The memory in which a step is computed. The next one takes it over.
+#[derive(Drop)]
+pub struct Scratch {
+    /// Which instructions were met.
+    pub marks: Marks,
+    /// The ways at the place.
+    pub reach: Reach,
+}
+
+impl Scratch {
+    /// No memory is taken.
+    pub fn new(alloc: Global) -> Scratch {
+        Scratch {
+            marks: Marks::new(alloc),
+            reach: Reach {
+                stack: Vec::new(alloc),
+                next: Vec::new(alloc),
+            },
+        }
+    }
+}
+
+/// Puts the ways on the stack, the first one on top, in place of what was left there.
+fn load(stack: &mut Vec<Way>, ways: &[usize]) -> Result<(), AllocError>
+    ensures { OnOk result (reverse stack.new.items ≡ waiting 0 ways.now) }
 {
-    let mut stack = Vec::with_capacity(alloc, ways.len())?;
+    stack.clear();
     for from in (0..ways.len()).rev() {
         stack.push(Way {
             at: ways[from],
             from,
         })?;
     }
-    Ok(stack)
+    Ok(())
 }
 
 /// Computes the step from these waiting instructions, in order of preference, on what is seen there. It fetches each instruction
-/// of the code at most once. What is marked before does not matter.
+/// of the code at most once. What the scratch has before does not matter.
 pub fn step_from(
     alloc: Global,
     code: &Code,
     ways: &[usize],
     sight: Sight,
-    marks: &mut Marks,
+    scratch: &mut Scratch,
     work: &mut Work,
 ) -> Result<Step, AllocError>
     ensures step { IfOk result (IsStepOn code.now ways.now sight) }
@@ -52,12 +74,11 @@ pub fn step_from(
     ensures counts { AddsSteps (code_len code.now) work.old work.new }
     ensures paid { IfOk result (λ s. PaysFor (length s.next.items) work.old work.new) }
 {
-    let mut reach = Reach {
-        stack: load(alloc, ways)?,
-        next: Vec::with_capacity(alloc, ways.len())?,
-    };
+    let Scratch { marks, reach } = scratch;
+    load(&mut reach.stack, ways)?;
+    reach.next.clear();
     marks.reset(code.len())?;
-    let matched = close(code, sight, &mut reach, marks, work)?;
+    let matched = close(code, sight, reach, marks, work)?;
     let mut next = Vec::with_capacity(alloc, reach.next.len())?;
     marks.reset(code.len())?;
     add_all(code, &reach.next, &mut next, marks)?;

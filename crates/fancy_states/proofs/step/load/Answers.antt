@@ -3,7 +3,7 @@ use Rattle.fancy_states.proofs.StepLemmas.{waiting_none, waiting_more}
 use Rattle.fancy_states.proofs.step.load.Goals as goal
 
 pub loop-from-init : goal.loop-from-init
-loop-from-init c = waiting_none _ c.args.ways.now c.in_ok-stack.ensures.items
+loop-from-init c = waiting_none _ c.args.ways.now c.clear.ensures.items
 
 pub loop-from-preserved : goal.loop-from-preserved
 loop-from-preserved c =
