@@ -6,9 +6,10 @@ ghost use Rattle.fancy_states.specs.Remembered.{Remembers};
 ghost use Rattle.fancy_code.specs.declared.code.Code.{Code};
 ghost use Rattle.fancy_input.specs.Work.{steps_of, returns_of, units_of};
 
-use crate::following::{SHORT, TABLE, WORTH};
+use crate::following::{LEAST_WORTH, SHORT, TABLE, WORTH};
 use crate::read_past::ReadPast;
 use fancy_bytes::lacking::KnownBytes;
+use fancy_code::code::Code;
 use fancy_input::input::Request;
 use fancy_input::span::Span;
 use fancy_input::work::Work;
@@ -87,14 +88,14 @@ impl Kept {
         matches!(self, Kept::Steps)
     }
 
-    /// How long the runner serves before the automaton does, from a search for this on, with code of so many marks. `None` where it does
-    /// not: its patience is over, or its table would be large.
-    pub(crate) fn patience(self, request: Request, marks: usize) -> Option<Patience> {
+    /// How long the runner serves before the automaton does, from a search for this on. `None` where it does not: its patience is over, or
+    /// its table would be large.
+    pub(crate) fn patience(self, request: Request, code: &Code) -> Option<Patience> {
         let (first, end) = (request.effective_start(), request.range_end);
-        let bits = end.saturating_sub(first).saturating_mul(marks);
+        let bits = end.saturating_sub(first).saturating_mul(code.marks());
         match self {
             Kept::Nothing if bits <= TABLE => Some(Patience {
-                steps: WORTH,
+                steps: code.len().saturating_mul(WORTH).max(LEAST_WORTH),
                 taken: 0,
                 first,
             }),

@@ -10,8 +10,11 @@ use fancy_prefilter::candidates::next_opening;
 use fancy_prefilter::prefilter::Prefilter;
 use fancy_tree::char_set::CharSet;
 
-/// The automaton's first steps take about as long as so many of the runner.
-pub(crate) const WORTH: usize = 512;
+/// The automaton's first steps take about as long as so many of the runner for each instruction of the code.
+pub(crate) const WORTH: usize = 32;
+
+/// They take about as long as so many of the runner at least.
+pub(crate) const LEAST_WORTH: usize = 512;
 
 /// In a text of fewer bytes the runner serves alone.
 pub(crate) const SHORT: usize = 256;

@@ -397,7 +397,7 @@ impl Program {
     {
         let mut request = request;
         let mut kept = Kept::Nothing;
-        if let Some(patience) = kept.patience(request, self.code.marks()) {
+        if let Some(patience) = kept.patience(request, &self.code) {
             let mut cache = runner::Cache::new(*self.text.allocator());
             match self.begin(haystack, request, patience, &mut cache, work)? {
                 Begun::Ended(found) => return Ok(found),
@@ -556,7 +556,7 @@ impl Program {
         ensures apart { cache.new.machine ≡ cache.old.machine }
     {
         let mut request = request;
-        if let Some(patience) = kept.patience(request, self.code.marks()) {
+        if let Some(patience) = kept.patience(request, &self.code) {
             let before = work.steps();
             cache.served = Engine::Runner;
             match self.begin(haystack, request, patience, &mut cache.runner, work)? {
@@ -1005,7 +1005,7 @@ impl Program {
         let from_position = anchored_at(*asked.request, position);
         let followed = self.is_followed_at(asked, from_position, &notes.kept, work);
         let patience = if followed {
-            notes.kept.patience(from_position, self.code.marks())
+            notes.kept.patience(from_position, &self.code)
         } else {
             None
         };
