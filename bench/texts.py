@@ -385,6 +385,14 @@ def cut(text, size):
     return (data * (size // len(data) + 1))[:size].decode("utf-8", "ignore")
 
 
+# The beginnings of some of them.
+MAKERS |= {
+    f"{name}-{size}.txt": lambda whole=whole, size=size: cut(MAKERS[whole](), size)
+    for size in (1000, 4000)
+    for name, whole in [("log", "log.txt"), ("pysrc", "pysrc.txt"), ("english", "english1m.txt"), ("data", "data.csv"), ("ru", "ru.txt")]
+}
+
+
 # Texts of any size, whose searches are to show how time grows.
 GROWING = {
     "a": lambda size: "a" * size,

@@ -18,6 +18,7 @@ GROUPS = {
     "scripts": "text in several scripts",
     "short": "texts of some 20 bytes",
     "documents": "a text of a few thousand bytes, of which one answer is asked, or a few matches",
+    "parts": "parts of files, of 1,000 and of 4,000 bytes",
     "held": "texts of some 20 bytes, in memory that the caller holds",
     "built-anew": "a pattern that is built anew for each line",
     "hard": "hard patterns",
