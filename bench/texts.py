@@ -385,7 +385,7 @@ def cut(text, size):
     return (data * (size // len(data) + 1))[:size].decode("utf-8", "ignore")
 
 
-# The beginnings of some of them.
+# The beginnings of some of them, of so many bytes.
 MAKERS |= {
     f"{name}-{size}.txt": lambda whole=whole, size=size: cut(MAKERS[whole](), size)
     for size in (1000, 4000)
