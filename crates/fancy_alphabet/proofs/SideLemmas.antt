@@ -4,7 +4,6 @@ use Rattle.std.proofs.lemmas.Bool.{eq-eqb}
 use Rattle.std.proofs.lemmas.Bool.Decides.{eqb_tells, leb_tells, nat_tests}
 use Rattle.std.proofs.lemmas.Option.{none-some, slice_get-get_or, slice_get_past, slice_get_within}
 use Rattle.unicode.specs.Perl.{is_word_byte}
-use Rattle.unicode.proofs.PerlLemmas.{is_word_char-ascii}
 use Rattle.fancy_tree.specs.declared.tree.Assertion.{Assertion}
 use Rattle.fancy_tree.specs.declared.tree.Assertion.TheVariants.{TextStart, TextEnd, LineStart, LineEnd, LineStartCrlf, LineEndCrlf, LastLine, LastLineCrlf, WordBoundary, NotWordBoundary, WordStart, WordEnd, WordStartHalf, WordEndHalf}
 use Rattle.fancy_tree.specs.declared.tree.Meaning.{Meaning}
@@ -20,7 +19,7 @@ use Rattle.fancy_code.specs.Instructions.{Instruction, Assert, Fail}
 use Rattle.fancy_code.specs.Run.{instr_at}
 use Rattle.fancy_meaning.proofs.ReadingLemmas.{low_after, low_before}
 use Rattle.fancy_code.proofs.RunMore.{past_end}
-use Rattle.fancy_meaning.proofs.WordCharacters.{ascii_word, unicode_word}
+use Rattle.fancy_meaning.proofs.WordCharacters.{word_byte}
 use Rattle.fancy_alphabet.specs.Sides.{AreToldBy, IsAfter, IsBefore, IsToldBy, is_edge, is_feed, is_nothing, is_return, is_worded, nothing_where, seen_as, side_of, tests_for, wide_of}
 use Rattle.fancy_alphabet.specs.declared.side.Side.{Side}
 use Rattle.fancy_alphabet.specs.declared.side.Side.TheVariants as side
@@ -77,12 +76,6 @@ told_all code n t all below q a next e =
     ] where
       fails : Assert a next ≡ Fail → ⊥
       fails same = cc
-
--- an ASCII byte is of a word in each meaning, or in none
-word_byte : (m : Meaning) (c : ℕ) → c < 128 → in_named_set m Word c ≡ is_word_byte c
-word_byte Unicode c low = sym (unicode_word c (grind (arith, nat_tests))) ∙ is_word_char-ascii c low
-word_byte Bytes c low = sym (ascii_word c)
-word_byte AsciiText c low = sym (ascii_word c)
 
 -- what an ASCII byte is
 pub byte_is_something : (b : ℕ) → is_nothing (side_of b) ≡ false

@@ -1,14 +1,17 @@
 -- What code foretells of the bytes at the first places of what it consumes.
-use Rattle.std.proofs.Common.{◌≡◌, ℕ, zero, suc, ◌+◌, ◌-◌, ◌<◌, ◌≤◌, ◌==◌, Bool, true, false, not, ◌&&◌, ◌||◌, List, [], ◌∷◌, ◌++◌, length, drop, take, Option, Some, None, if◌then◌else◌, nat_le, inl, inr, refl, sym, ap, subst, ◌∙◌, arith, eqb-true, true≢false, slice_index, slice_get, slice_set, get_or-drop, leb-true, eq-eqb, ne_eqb, replicate}
+use Rattle.std.proofs.Common.{◌≡◌, ℕ, zero, suc, ◌+◌, ◌-◌, ◌<◌, ◌≤◌, ◌==◌, Bool, true, false, not, ◌&&◌, ◌||◌, List, [], ◌∷◌, ◌++◌, length, drop, take, Option, Some, None, if◌then◌else◌, nat_le, inl, inr, refl, sym, ap, subst, ◌∙◌, ap₂, arith, eqb-true, true≢false, slice_index, slice_get, slice_set, get_or-drop, leb-true, eq-eqb, ne_eqb, replicate}
 use Rattle.std.proofs.lemmas.List.{length-replicate, length-take-le, get_or-take, get_or_append_left}
 use Rattle.std.proofs.lemmas.Bool.{cases_lt}
+use Rattle.std.proofs.lemmas.Bool.Decides.{nat_tests}
+use Rattle.std.proofs.lemmas.Option.{slice_get-get_or}
 use Rattle.std.proofs.lemmas.Str.{length-encode, len_utf8_bounds}
 use Rattle.std.specs.Prelude.{IfSome}
 use Rattle.fancy_tree.specs.declared.tree.Meaning.{Meaning}
 use Rattle.fancy_tree.specs.declared.tree.Meaning.TheVariants.{Unicode, Bytes, AsciiText}
 use Rattle.fancy_tree.specs.declared.tree.Assertion.{Assertion}
-use Rattle.fancy_tree.specs.declared.tree.Assertion.TheVariants.{TextStart, LineStart}
-use Rattle.fancy_tree.specs.Sets.{has}
+use Rattle.fancy_tree.specs.declared.tree.Assertion.TheVariants.{TextStart, LineStart, WordBoundary}
+use Rattle.fancy_tree.specs.Sets.{differ, has}
+use Rattle.unicode.specs.Perl.{is_word_byte}
 use Rattle.fancy_bytes.specs.Items.{encoding, is_item, only}
 use Rattle.fancy_bytes.specs.Sets.{ByteFlags, member}
 use Rattle.fancy_bytes.specs.Rows.{StandsFrom, set_at, Wider, HasEncoding, HasItems, HasNone}
@@ -17,16 +20,18 @@ use Rattle.fancy_code.specs.Branches.{AreBranches, Chooses, OpensTo, TestsTo}
 use Rattle.fancy_prefilter.specs.declared.branches.Branches.{Branches}
 use Rattle.fancy_code.specs.declared.code.Code.{Code}
 use Rattle.fancy_code.specs.Code.{instrs_of}
-use Rattle.fancy_meaning.specs.Context.{Context, State, Unit_at, moved_to, with_capture, unit_in, unit_at, past_item, holds, option_to}
+use Rattle.fancy_meaning.specs.Context.{Context, State, Unit_at, moved_to, with_capture, unit_in, unit_at, past_item, holds, option_to, is_word, word_before, word_after}
 use Rattle.fancy_meaning.specs.Forward.{EachOutcome}
 use Rattle.fancy_code.specs.Instructions.{Instruction, Fail, Character, Member, Assert, Split, Open, Close}
 use Rattle.fancy_code.specs.Run.{Raw, Note, Stop, Sign, choice_opened, returned, fetched, Go, AllStops, before, join, onward, instr_at, act, run, erase, Foretells}
 use Rattle.fancy_code.specs.Compile.{IsCodeOf, depth}
 use Rattle.fancy_input.specs.Lines.{is_line_feed}
-use Rattle.fancy_prefilter.specs.NextOpening.{FollowsNone}
+use Rattle.fancy_prefilter.specs.NextOpening.{FollowsNone, IsInsideWord}
 use Rattle.fancy_code.specs.Foretold.{Foretold, ForetoldPast, AreForetold, IsAnchored}
 use Rattle.fancy_meaning.specs.Search.{Query, answer_at, context_of, initial}
 use Rattle.fancy_meaning.proofs.BeginLemmas.{accepted_holds}
+use Rattle.fancy_meaning.proofs.ReadingLemmas.{low_after, low_before}
+use Rattle.fancy_meaning.proofs.WordCharacters.{word_byte}
 use Rattle.fancy_meaning.proofs.OpenLemmas.{unit_wide}
 use Rattle.fancy_code.proofs.RunMore.{past_end}
 use Rattle.fancy_meaning.proofs.SearchLemmas.{is-no_answer}
@@ -390,6 +395,25 @@ line_fails x q other = ap (λ (b : Bool). b || is_line_feed (slice_get x.haystac
 pub within_line : (x : Context) (set : ByteFlags) → member set 10 ≡ true → (p : ℕ) → FollowsNone set x.haystack p → holds x LineStart p ≡ false
 within_line x set feed zero within = absurd within
 within_line x set feed (suc q) within = line_fails x q (λ e. true≢false (sym feed ∙ sym (ap (member set) e) ∙ within))
+
+-- inside a word there is no boundary
+word_is_low : (b : ℕ) → is_word_byte b ≡ true → b < 128
+word_is_low b e = grind (arith, nat_tests, e)
+
+pub inside_word : (x : Context) (set : ByteFlags) → ((k : ℕ) → slice_index x.haystack k < 256) → ((b : ℕ) → b < 256 → member set b ≡ false → is_word_byte b ≡ true) → (p : ℕ)
+    → IsInsideWord set x.haystack p → holds x WordBoundary p ≡ false
+unfolding holds word_before word_after
+inside_word x set bytes words zero inside = absurd inside.0
+inside_word x set bytes words (suc q) inside =
+    let first = slice_index x.haystack q in
+    let second = slice_index x.haystack (suc q) in
+    let one : is_word_byte first ≡ true = words first (bytes q) inside.0 in
+    let two : is_word_byte second ≡ true = words second (bytes (suc q)) inside.1.1 in
+    let before = low_before x.meaning x.haystack (suc q) first (word_is_low first one) (slice_get-get_or x.haystack q 0 (omega (arith, inside.1.0))) in
+    let after = low_after x.meaning x.haystack (suc q) second (word_is_low second two) (slice_get-get_or x.haystack (suc q) 0 inside.1.0) in
+    ap₂ differ
+    (ap (is_word x.meaning) before ∙ word_byte x.meaning first (word_is_low first one) ∙ one)
+    (ap (is_word x.meaning) after ∙ word_byte x.meaning second (word_is_low second two) ∙ two)
 
 -- code that goes on only where an assertion holds
 

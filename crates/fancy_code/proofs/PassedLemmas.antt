@@ -2,11 +2,11 @@
 use Rattle.std.proofs.Common.{◌≡◌, ℕ, ◌+◌, ◌-◌, ◌<◌, ◌≤◌, List, length, None, sym, subst, arith, slice_index}
 use Rattle.std.specs.Prelude.{IfSome}
 use Rattle.fancy_bytes.specs.Openings.{opening, StandsBefore}
-use Rattle.fancy_tree.specs.declared.tree.Assertion.TheVariants.{TextStart, LineStart}
+use Rattle.fancy_tree.specs.declared.tree.Assertion.TheVariants.{TextStart, LineStart, WordBoundary}
 use Rattle.fancy_prefilter.specs.NextOpening.{LacksOpening, StartsNot, by_byte, by_anchor, by_opening, by_reach, IsOffAnchor}
 use Rattle.fancy_prefilter.specs.Prefilters.{text_in, window_in, branches_in}
 use Rattle.fancy_prefilter.specs.declared.prefilter.Anchor.{Anchor}
-use Rattle.fancy_prefilter.specs.declared.prefilter.Anchor.TheVariants.{Anywhere, AtStart, AtLines}
+use Rattle.fancy_prefilter.specs.declared.prefilter.Anchor.TheVariants.{Anywhere, AtStart, AtLines, AtWords}
 use Rattle.fancy_prefilter.specs.declared.prefilter.Opening.{Opening}
 use Rattle.fancy_prefilter.specs.declared.prefilter.Opening.TheVariants.{Untold, Text, Window, Sets, Words}
 use Rattle.fancy_code.specs.declared.code.Code.{Code}
@@ -15,7 +15,7 @@ use Rattle.fancy_code.specs.Code.{instrs_of}
 use Rattle.fancy_code.specs.Compile.{IsCodeOf}
 use Rattle.fancy_code.specs.Foretold.{AreForetold, StartsAt}
 use Rattle.fancy_meaning.specs.Search.{Query, answer_at, answer_from, context_of}
-use Rattle.fancy_code.proofs.ForetoldLemmas.{none_foretold, none_anchored, none_branched, start_fails, within_line}
+use Rattle.fancy_code.proofs.ForetoldLemmas.{none_foretold, none_anchored, none_branched, start_fails, within_line, inside_word}
 use Rattle.fancy_meaning.proofs.OpenLemmas.{opening_stands}
 use Rattle.fancy_meaning.proofs.SearchLemmas.{is-no_answer}
 use Rattle.fancy_meaning.proofs.SkipLemmas.{skip_none}
@@ -43,6 +43,8 @@ module _ (q : Query) (code : Code) (is : IsCodeOf q.sought.pattern code) (meant 
   none_off AtStart told p le off = none_anchored q code is meant inside TextStart told p le (start_fails (context_of q) p off)
   none_off (AtLines set) told p le off =
       none_anchored q code is meant inside LineStart told.1 p le (within_line (context_of q) set told.0 p off)
+  none_off (AtWords set) told p le off =
+      none_anchored q code is meant inside WordBoundary told.1 p le (inside_word (context_of q) set bytes told.0 p off)
 
   starts_not : (p : ℕ) → p ≤ q.request.range_end → StartsNot code.prefilter q.haystack q.request.range_end p → answer_at q p ≡ None
   starts_not p le (by_byte never) = none_starts q code.prefilter.starts (rw meant is.starts) bytes p never

@@ -1,12 +1,13 @@
 -- Which bytes stand at the first places of what code consumes from an instruction on.
 use Rattle.std.specs.Prelude.{◌≡◌, ℕ, ◌+◌, ◌<◌, ◌≤◌, ◌==◌, ◌||◌, Bool, true, false, List, length, Some, slice_get, slice_index}
 use Rattle.std.specs.Global.{Vec}
+use Rattle.unicode.specs.Perl.{is_word_byte}
 use Rattle.fancy_tree.specs.declared.tree.Assertion.{Assertion}
-use Rattle.fancy_tree.specs.declared.tree.Assertion.TheVariants.{TextStart, LineStart}
+use Rattle.fancy_tree.specs.declared.tree.Assertion.TheVariants.{TextStart, LineStart, WordBoundary}
 use Rattle.fancy_tree.specs.declared.tree.Meaning.{Meaning}
 use Rattle.fancy_bytes.specs.Sets.{ByteFlags, member}
 use Rattle.fancy_prefilter.specs.declared.prefilter.Anchor.{Anchor}
-use Rattle.fancy_prefilter.specs.declared.prefilter.Anchor.TheVariants.{Anywhere, AtStart, AtLines}
+use Rattle.fancy_prefilter.specs.declared.prefilter.Anchor.TheVariants.{Anywhere, AtStart, AtLines, AtWords}
 use Rattle.fancy_bytes.specs.Rows.{StandsFrom}
 use Rattle.fancy_code.specs.Code.{instrs_of}
 use Rattle.fancy_meaning.specs.Context.{Context, State, holds, moved_to, past_item}
@@ -55,11 +56,16 @@ GoesOnAtEnds code q = (a : Assertion) × HoldsAtEnds a × IsAnchored code a q
 abbrev pub StartsLines : ByteFlags → List Instruction → ℕ → Type 0
 StartsLines set code start = (member set 10 ≡ true) × IsAnchored code LineStart start
 
+-- the code goes on from an instruction at boundaries of words alone, and the set has all but ASCII word characters
+abbrev pub StartsWords : ByteFlags → List Instruction → ℕ → Type 0
+StartsWords set code start = ((b : ℕ) → b < 256 → member set b ≡ false → is_word_byte b ≡ true) × IsAnchored code WordBoundary start
+
 -- the code goes on only where the anchor says that matches start
 abbrev pub StartsAt : Anchor → List Instruction → ℕ → Type 0
 StartsAt Anywhere code start = Unit {0}
 StartsAt AtStart code start = IsAnchored code TextStart start
 StartsAt (AtLines set) code start = StartsLines set code start
+StartsAt (AtWords set) code start = StartsWords set code start
 
 -- one row for each of these instructions: the sets of the bytes at the first places of what is consumed from it on
 pub record AreRows (code : List Instruction) (m : Meaning) (heads : List ℕ) (rows : List (Vec ByteFlags)) : Type 0 where

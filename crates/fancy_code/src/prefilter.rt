@@ -1,7 +1,8 @@
 //! Where a match may start, by the code of the pattern: at the text's start or at line starts alone, or where some bytes stand at its
 //! first places.
 
-ghost use Rattle.std.specs.Prelude.{◌≡◌, ◌==◌, ◌<◌, ◌≤◌, ◌+◌, true, length, IfOk, IfSome};
+ghost use Rattle.std.specs.Prelude.{◌≡◌, ◌==◌, ◌<◌, ◌≤◌, ◌+◌, ℕ, true, false, length, IfOk, IfSome};
+ghost use Rattle.unicode.specs.Perl.{is_word_byte};
 ghost use Rattle.fancy_tree.specs.Members.{edges_of};
 ghost use Rattle.fancy_tree.specs.Pattern.{Pattern};
 ghost use Rattle.fancy_tree.specs.Sets.{has};
@@ -371,6 +372,53 @@ fn with_lines(code: Code) -> Code
     code
 }
 
+/// Whether a byte is an ASCII word character.
+fn is_word_byte(byte: u8) -> bool
+    ensures { result ≡ is_word_byte byte }
+{
+    byte.is_ascii_alphanumeric() || byte == b'_'
+}
+
+/// The scan for bytes that are no ASCII word characters.
+fn between_words() -> Scan
+    ensures { (b : ℕ) → b < 256 → member result b ≡ false → is_word_byte b ≡ true }
+{
+    let mut others = ByteSet::new();
+    for code in 0..256u32 {
+        let byte = code as u8;
+        if !is_word_byte(byte) {
+            others.insert(byte);
+        }
+    }
+    Scan::new(others)
+}
+
+/// Whether each match starts at the boundary of a word, where a search would go by its first byte alone.
+fn starts_words(code: &Code) -> bool
+    ensures { result ≡ true → IsAnchored (instrs_of code.now) Assertion.WordBoundary code.now.start }
+{
+    let prefilter = &code.prefilter;
+    if prefilter.scans_for_opening() || prefilter.has_words() || prefilter.is_anchored() {
+        return false;
+    }
+    starts_at(code, Assertion::WordBoundary)
+}
+
+/// The same code, with the scan for what stands between words.
+fn with_words(code: Code) -> Code
+    ensures instrs { instrs_of result ≡ instrs_of code }
+    ensures groups { result.groups ≡ code.groups }
+    ensures meaning { result.meaning ≡ code.meaning }
+    ensures is { (p : Pattern) → IsCodeOf p code → IsCodeOf p result }
+{
+    if !starts_words(&code) {
+        return code;
+    }
+    let mut code = code;
+    code.prefilter.anchor = Anchor::AtWords(between_words());
+    code
+}
+
 /// The same code, with what tells where a match may start.
 pub(crate) fn with_starts(alloc: Global, code: Code) -> Result<Code, AllocError>
     ensures instrs { IfOk result (λ c. instrs_of c ≡ instrs_of code) }
@@ -384,5 +432,5 @@ pub(crate) fn with_starts(alloc: Global, code: Code) -> Result<Code, AllocError>
         return Ok(code);
     }
     let code = with_opening(alloc, code)?;
-    Ok(with_lines(code))
+    Ok(with_words(with_lines(code)))
 }

@@ -1,12 +1,12 @@
 -- Where a search goes on to, by what tells where no match starts.
-use Rattle.std.proofs.Common.{◌≡◌, ℕ, zero, suc, ◌+◌, ◌<◌, ◌≤◌, true, inl, inr, List, Option, Some, None, sym, subst, ◌∙◌, arith, true≢false}
+use Rattle.std.proofs.Common.{◌≡◌, ℕ, zero, suc, ◌+◌, ◌<◌, ◌≤◌, inl, inr, List, Option, Some, None, sym, subst, ◌∙◌, arith, true≢false, length, max}
 use Rattle.std.proofs.lemmas.Bool.{cases_lt}
 use Rattle.fancy_bytes.specs.Sets.{ByteFlags}
-use Rattle.fancy_prefilter.specs.NextOpening.{FollowsNone, IsOffAnchor, LacksOpening, StartsNot, by_byte, by_anchor, by_opening, IsNextOpening}
+use Rattle.fancy_prefilter.specs.NextOpening.{FollowsNone, IsInsideWord, IsOffAnchor, LacksOpening, StartsNot, by_byte, by_anchor, by_opening, IsNextOpening}
 use Rattle.fancy_prefilter.specs.Seeks.{NoneSeenBefore}
 use Rattle.fancy_prefilter.specs.Seen.{MayStart, MayNotStart, IsNextCandidate}
 use Rattle.fancy_prefilter.specs.declared.prefilter.Anchor.{Anchor}
-use Rattle.fancy_prefilter.specs.declared.prefilter.Anchor.TheVariants.{AtStart, AtLines}
+use Rattle.fancy_prefilter.specs.declared.prefilter.Anchor.TheVariants.{AtStart, AtLines, AtWords}
 use Rattle.fancy_prefilter.specs.declared.prefilter.Opening.{Opening}
 use Rattle.fancy_prefilter.specs.declared.prefilter.Prefilter.{Prefilter}
 
@@ -115,3 +115,31 @@ first_line f set haystack range_end from next is none k low high = by_anchor (su
 pub none_followed : (set : ByteFlags) (haystack : List ℕ) (from to k : ℕ) → NoneSeenBefore set haystack from to → from < k → k < to + 1 → FollowsNone set haystack k
 none_followed set haystack from to zero none low high = absurd (omega (arith, low))
 none_followed set haystack from to (suc q) none low high = none q (omega (arith, low)) (omega (arith, high))
+
+-- where no byte of the set stands from one place on, the places after it up to the other are inside a word
+pub inside_word : (set : ByteFlags) (haystack : List ℕ) (from to k : ℕ) → NoneSeenBefore set haystack from to → to ≤ length haystack → from < k → k < to → IsInsideWord set haystack k
+inside_word set haystack from to k none le low high =
+    (none_followed set haystack from to k none low (omega (arith, high)), (omega (arith, high, le), none k (omega (arith, low)) high))
+
+-- so are those from a place inside a word on
+pub still_inside : (set : ByteFlags) (haystack : List ℕ) (place to past k : ℕ) → IsInsideWord set haystack place → NoneSeenBefore set haystack place to → to ≤ length haystack
+    → past ≡ max to (place + 1) → place ≤ k → k < past → IsInsideWord set haystack k
+still_inside set haystack place to past k here none le is low high =
+    elim (cases_lt place k) [
+      | inl lt ↦ inside_word set haystack place to k none le lt (omega (arith, is, lt, high))
+      | inr ge ↦ subst (λ (p : ℕ). IsInsideWord set haystack p) (omega (arith, low, ge)) here
+    ]
+
+-- no match starts inside a word
+pub off_words : (f : Prefilter) (set : ByteFlags) (haystack : List ℕ) (range_end k : ℕ) → f.anchor ≡ AtWords set → IsInsideWord set haystack k → StartsNot f haystack range_end k
+off_words f set haystack range_end k is inside = by_anchor (subst (λ (a : Anchor). IsOffAnchor a haystack k) (sym is) inside)
+
+-- no match starts before the first place past a word, if none starts before a place inside it
+pub none_inside : (f : Prefilter) (set : ByteFlags) (haystack : List ℕ) (range_end from place past : ℕ) → f.anchor ≡ AtWords set
+    → ((k : ℕ) → from ≤ k → k < place → StartsNot f haystack range_end k) → ((k : ℕ) → place ≤ k → k < past → IsInsideWord set haystack k)
+    → (k : ℕ) → from ≤ k → k < past → StartsNot f haystack range_end k
+none_inside f set haystack range_end from place past is before inside k low high =
+    elim (cases_lt k place) [
+      | inl lt ↦ before k low lt
+      | inr ge ↦ off_words f set haystack range_end k is (inside k ge high)
+    ]

@@ -1,5 +1,5 @@
 -- Where a search goes on to, by all that tells where no match starts.
-use Rattle.std.specs.Prelude.{◌≡◌, ℕ, zero, suc, ◌+◌, ◌<◌, ◌≤◌, false, List, Option, Some, None, slice_index}
+use Rattle.std.specs.Prelude.{◌≡◌, ℕ, zero, suc, ◌+◌, ◌<◌, ◌≤◌, false, List, Option, Some, None, length, slice_index}
 use Rattle.fancy_bytes.specs.Sets.{ByteFlags, member}
 use Rattle.fancy_bytes.specs.Openings.{StandsBefore}
 use Rattle.fancy_prefilter.specs.Regions.{LacksTarget}
@@ -8,7 +8,7 @@ use Rattle.fancy_required.specs.declared.reach.Reach.{Reach}
 use Rattle.fancy_prefilter.specs.KeyTables.{NoneMayStand}
 use Rattle.fancy_prefilter.specs.Seen.{MayNotStart, NoneMayStart}
 use Rattle.fancy_prefilter.specs.declared.prefilter.Anchor.{Anchor}
-use Rattle.fancy_prefilter.specs.declared.prefilter.Anchor.TheVariants.{Anywhere, AtStart, AtLines}
+use Rattle.fancy_prefilter.specs.declared.prefilter.Anchor.TheVariants.{Anywhere, AtStart, AtLines, AtWords}
 use Rattle.fancy_prefilter.specs.declared.prefilter.Opening.{Opening}
 use Rattle.fancy_prefilter.specs.declared.prefilter.Opening.TheVariants.{Untold, Text, Window, Sets, Words}
 use Rattle.fancy_prefilter.specs.declared.prefilter.Prefilter.{Prefilter}
@@ -30,18 +30,23 @@ abbrev pub FollowsNone : ByteFlags → List ℕ → ℕ → Type 0
 FollowsNone set haystack zero = ⊥
 FollowsNone set haystack (suc p) = member set (slice_index haystack p) ≡ false
 
--- each match starts at the text's start, or there or after a byte of the set, and p is no such place
+-- bytes stand before p and at it, and none of them is of the set
+abbrev pub IsInsideWord : ByteFlags → List ℕ → ℕ → Type 0
+IsInsideWord set haystack p = FollowsNone set haystack p × ((p < length haystack) × (member set (slice_index haystack p) ≡ false))
+
+-- each match starts at the text's start, or there or after a byte of the set, or where a byte of the set stands on either side, and p is no such place
 abbrev pub IsOffAnchor : Anchor → List ℕ → ℕ → Type 0
 IsOffAnchor Anywhere haystack p = ⊥
 IsOffAnchor AtStart haystack p = 0 < p
 IsOffAnchor (AtLines set) haystack p = FollowsNone set haystack p
+IsOffAnchor (AtWords set) haystack p = IsInsideWord set haystack p
 
 -- what each match goes on to does not stand where a match from p on might come to it
 abbrev pub LacksReach : Option Reach → List ℕ → ℕ → ℕ → Type 0
 LacksReach None haystack range_end p = ⊥
 LacksReach (Some r) haystack range_end p = LacksTarget r haystack range_end p
 
--- no match starts at p: by its first byte, since it would start past the text's start or within a line, by what it opens with, or by what
+-- no match starts at p: by its first byte, since it would start past the text's start, within a line or inside a word, by what it opens with, or by what
 -- it goes on to
 pub data StartsNot (f : Prefilter) (haystack : List ℕ) (range_end p : ℕ) : Type 0 where
   by_byte : MayNotStart f.starts haystack range_end p → StartsNot f haystack range_end p

@@ -2,7 +2,7 @@
 
 ghost use Rattle.std.specs.Prelude.{◌≡◌, ℕ, ◌+◌, ◌<◌, ◌≤◌, Some, true, false, length};
 ghost use Rattle.fancy_bytes.specs.Openings.{NoneStandsBefore};
-ghost use Rattle.fancy_prefilter.specs.NextOpening.{FollowsNone, IsNextOpening, LacksOpening, StartsNot};
+ghost use Rattle.fancy_prefilter.specs.NextOpening.{FollowsNone, IsInsideWord, IsNextOpening, LacksOpening, StartsNot};
 ghost use Rattle.fancy_prefilter.specs.Seen.{IsNextCandidate, MayNotStart, MayStart};
 
 use crate::branches::Branches;
@@ -241,6 +241,61 @@ fn next_by_lines(
     place
 }
 
+/// Whether a place is inside a word: ASCII word characters stand before and after it.
+#[inline(always)]
+fn is_inside_word(others: &Scan, haystack: &[u8], place: usize) -> bool
+    ensures { result ≡ true → IsInsideWord others.now haystack.now place }
+{
+    if place == 0 || place >= haystack.len() {
+        return false;
+    }
+    !others.contains(haystack[place - 1]) && !others.contains(haystack[place])
+}
+
+/// The first place past one inside a word, up to the last, at which no word character stands; past the last where there is none.
+#[inline(always)]
+fn past_word(others: &Scan, haystack: &[u8], place: usize, last: usize) -> usize
+    requires here { IsInsideWord others.now haystack.now place }
+    requires ordered { place ≤ last }
+    requires within { last ≤ length haystack.now }
+    ensures forth { place < result }
+    ensures within { result ≤ last + 1 }
+    ensures none { (k : ℕ) → place ≤ k → k < result → IsInsideWord others.now haystack.now k }
+{
+    match others.next_seen(haystack, place, last) {
+        None => last.max(place + 1),
+        Some(other) => other.max(place + 1),
+    }
+}
+
+/// What [`next_opening`] answers where each match starts at the boundary of a word: from a place inside a word it goes on where no word
+/// character stands.
+#[inline(never)]
+fn next_by_boundaries(
+    prefilter: &Prefilter,
+    others: &Scan,
+    haystack: &[u8],
+    range_end: usize,
+    from: usize,
+    last: usize,
+) -> usize
+    requires words { prefilter.now.anchor ≡ Anchor.AtWords others.now }
+    requires ordered { from ≤ last + 1 }
+    requires last { last ≤ range_end }
+    requires inside { range_end ≤ length haystack.now }
+    ensures { IsNextOpening prefilter.now haystack.now range_end from last result }
+{
+    let mut place = candidate_from(prefilter, haystack, range_end, from, last);
+    while place <= last {
+        if !is_inside_word(others, haystack, place) {
+            return place;
+        }
+        let past = past_word(others, haystack, place, last);
+        place = candidate_from(prefilter, haystack, range_end, past, last);
+    }
+    place
+}
+
 /// What [`next_opening`] answers by what matches open with. A match that starts at the text's start alone is tried there alone.
 #[inline]
 fn next_by_opening(
@@ -264,6 +319,9 @@ fn next_by_opening(
         }
         Anchor::AtLines(feeds) => {
             return next_by_lines(prefilter, feeds, haystack, range_end, from, last);
+        }
+        Anchor::AtWords(others) => {
+            return next_by_boundaries(prefilter, others, haystack, range_end, from, last);
         }
     }
     match &prefilter.opening {

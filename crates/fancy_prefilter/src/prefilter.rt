@@ -63,6 +63,8 @@ pub enum Anchor {
     AtStart,
     /// At the text's start or after a line feed: the scan for line feeds.
     AtLines(Scan),
+    /// At the boundary of a word: the scan for bytes that are no ASCII word characters.
+    AtWords(Scan),
 }
 
 /// What tells where matches may begin.
@@ -70,7 +72,7 @@ pub enum Anchor {
 pub struct Prefilter {
     /// The bytes that a match starts with. `None` where it may start anywhere.
     pub starts: Option<Scan>,
-    /// Where each match starts: anywhere, at the text's start, or at the starts of lines.
+    /// Where each match starts: anywhere, at the text's start, at the starts of lines, or at the boundaries of words.
     pub anchor: Anchor,
     /// What each match opens with.
     pub opening: Opening,
@@ -148,6 +150,11 @@ impl Prefilter {
     /// Whether each match starts at the text's start.
     pub fn only_at_start(&self) -> bool {
         matches!(self.anchor, Anchor::AtStart)
+    }
+
+    /// Whether it is told where each match starts.
+    pub fn is_anchored(&self) -> bool {
+        !matches!(self.anchor, Anchor::Anywhere)
     }
 
     /// Whether each match opens with a text that is told.

@@ -1,4 +1,4 @@
-use Rattle.std.proofs.Common.{◌-◌, ◌+◌, ◌≤◌, ℕ, subst, sym, arith}
+use Rattle.std.proofs.Common.{◌+◌, ◌≤◌, ℕ, subst, sym, arith}
 use Rattle.std.specs.Prelude.{slice_range}
 use Rattle.memchr.specs.Find.{Nowhere, OccursAt}
 use Rattle.fancy_required.specs.Regions.{StandsAhead}
