@@ -6,7 +6,7 @@ ghost use Rattle.fancy_states.specs.Remembered.{Remembers};
 ghost use Rattle.fancy_code.specs.declared.code.Code.{Code};
 ghost use Rattle.fancy_input.specs.Work.{steps_of, returns_of, units_of};
 
-use crate::following::{LEAST_WORTH, SHORT, TABLE, WORTH};
+use crate::following::{LEAST_WORTH, MOST_WORTH, SHORT, TABLE, WORTH};
 use crate::read_past::ReadPast;
 use fancy_bytes::lacking::KnownBytes;
 use fancy_code::code::Code;
@@ -95,7 +95,10 @@ impl Kept {
         let bits = end.saturating_sub(first).saturating_mul(code.marks());
         match self {
             Kept::Nothing if bits <= TABLE => Some(Patience {
-                steps: code.len().saturating_mul(WORTH).max(LEAST_WORTH),
+                steps: code
+                    .len()
+                    .saturating_mul(WORTH)
+                    .clamp(LEAST_WORTH, MOST_WORTH),
                 taken: 0,
                 first,
             }),

@@ -16,6 +16,9 @@ pub(crate) const WORTH: usize = 32;
 /// They take about as long as so many of the runner at least.
 pub(crate) const LEAST_WORTH: usize = 512;
 
+/// They take about as long as so many of the runner at most: of long code few instructions are met.
+pub(crate) const MOST_WORTH: usize = 2048;
+
 /// In a text of fewer bytes the runner serves alone.
 pub(crate) const SHORT: usize = 256;
 
