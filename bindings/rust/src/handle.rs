@@ -18,8 +18,8 @@ impl fmt::Debug for Handle {
     }
 }
 
-// SAFETY: what a handle owns is reached by it alone, or by the handles that share it through an atomic count, and no search
-// changes it. Memory is from malloc, which any thread may give back.
+// SAFETY: what a handle owns is reached by it alone, or by the handles that share it through an atomic count, and searches change
+// of it what one thread at a time takes out of a slot, and atomic numbers. Memory is from malloc, which any thread may give back.
 unsafe impl Send for Handle {}
 
 // SAFETY: nothing is done with a handle that is lent by `&`.

@@ -40,10 +40,11 @@ pub struct Matches<'r, S: Haystack> {
 impl<'r, S: Haystack> Drop for Matches<'r, S> {
     fn drop(self) {
         let Matches {
-            regex: _,
-            searcher: _,
-            cache: _,
+            regex,
+            searcher,
+            mut cache,
         } = self;
+        searcher.leave(&regex.program, &mut cache);
     }
 }
 

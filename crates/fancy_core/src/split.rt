@@ -44,12 +44,13 @@ pub struct Split<'r, 't> {
 impl<'r, 't> Drop for Split<'r, 't> {
     fn drop(self) {
         let Split {
-            regex: _,
-            searcher: _,
-            cache: _,
+            regex,
+            searcher,
+            mut cache,
             last: _,
             ended: _,
         } = self;
+        searcher.leave(&regex.program, &mut cache);
     }
 }
 

@@ -25,7 +25,8 @@ use Rattle.fancy_search.specs.declared.program.Program.{Program}
 use Rattle.fancy_search.specs.declared.cache.Kept.{Kept}
 use Rattle.fancy_search.specs.declared.cache.Kept.TheVariants.{Nothing, Runner, Begun, Steps, Lines}
 use Rattle.fancy_search.specs.Options.{search_options}
-use Rattle.fancy_search.specs.KeptTables.{KeepsTable, KeepsSteps, KeepsLines, KeepsNotes, HoldsSteps, IsKeptIn, KeepsOn, table_kept, keeps_no_table, is_steps, kept_from}
+use Rattle.fancy_search.specs.StepsOf.{AreStepsOf}
+use Rattle.fancy_search.specs.KeptTables.{KeepsTable, KeepsLines, KeepsNotes, HoldsSteps, IsKeptIn, KeepsOn, table_kept, keeps_no_table, is_steps, kept_from}
 
 -- what is kept for a place is kept for a later one, whichever positions are tried
 pub kept_later : (code : Code) (haystack : List ℕ) (request : Request) (options : SearchOptions) (kept : KeptTable) (place later start : ℕ) (anchored : Bool) (notes : Notes) → place ≤ later
@@ -62,7 +63,7 @@ module _ (program : Program) (haystack : List ℕ) (cache : Cache) where
   found_table request None (Some f) is = ((λ base e. absurd (none-some base e)), (λ e. cc), (λ e. cc))
   found_table request (Some k) (Some f) is = keeps_table request k f.end is
 
-  pub found_steps : (request : Request) (kept : Kept) (m : Option Found) → keeps_no_table kept ≡ true → (is_steps kept ≡ true → KeepsSteps program cache.steps.cells) → IfSome m (λ f. IsKeptIn program haystack request kept f.end cache)
+  pub found_steps : (request : Request) (kept : Kept) (m : Option Found) → keeps_no_table kept ≡ true → (is_steps kept ≡ true → HoldsSteps program cache.steps) → IfSome m (λ f. IsKeptIn program haystack request kept f.end cache)
   found_steps request kept None steps is = tt
   found_steps request Nothing (Some f) steps is = absurd (true≢false (sym steps))
   found_steps request (Runner None) (Some f) steps is = ((λ base e. absurd (none-some base e)), (λ e. cc), (λ e. cc))
@@ -162,21 +163,15 @@ noted_steps program haystack request place notes steps holds = rw (no_table note
   no_table Steps e = refl
   no_table Lines e = refl
 
+-- where steps of the code are held, those that are held are of it
+pub steps_hold : (program : Program) (held : Box RememberedSteps Global) → AreStepsOf program.code held.value → HoldsSteps program (Some held)
+steps_hold program held is other same = subst (λ (b : Box RememberedSteps Global). AreStepsOf program.code b.value) (same_Some held other same) is
+
 -- the steps that are held, where these are lent
-pub steps_held : (program : Program) (held : Option (Box RememberedSteps Global)) (steps : RememberedSteps) → IfSome held (λ h. steps ≡ h.value)
-    → HoldsSteps program held → KeepsSteps program steps.cells
-steps_held program None steps lent is = let never : false ≡ true = is.0 in cc
-steps_held program (Some h) steps lent is = subst (λ (s : RememberedSteps). KeepsSteps program s.cells) (sym lent) is.1
-
--- the steps that were held are taken out
-pub steps_taken : (program : Program) (held : Option (Box RememberedSteps Global)) (taken : Box RememberedSteps Global) → IfSome held (λ b. taken ≡ b) → HoldsSteps program held → KeepsSteps program taken.value.cells
-steps_taken program (Some b) taken same holds = rw same holds.1
-steps_taken program None taken same holds = let never : false ≡ true = holds.0 in cc
-
--- where none are held, they are not taken out
-pub noted_still : (program : Program) (haystack : List ℕ) (request : Request) (place : ℕ) (notes : AttemptNotes) → notes.steps ≡ None
-    → KeepsNotes program haystack request place notes → KeepsNotes program haystack request place (record notes { steps = None })
-noted_still program haystack request place notes none is = (is.0, λ steps. subst (HoldsSteps program) none (is.1 steps))
+pub steps_held : (program : Program) (held : Option (Box RememberedSteps Global)) (steps : RememberedSteps)
+    → option_map (λ (b : Box RememberedSteps Global). b.value) held ≡ Some steps → HoldsSteps program held → AreStepsOf program.code steps
+steps_held program None steps lent is = absurd (none-some _ lent)
+steps_held program (Some h) steps lent is = subst (AreStepsOf program.code) (same_Some h.value steps lent) (is h refl)
 
 -- an attempt at a position that finds where it starts starts at the position
 pub starts_here : (q : Query) (p : ℕ) (groups : List (Option Span)) (m : Option Found) → answer_with groups m ≡ attempt q p → IfSome m (λ f. f.start ≡ f.position) → IfSome m (λ f. f.start ≡ p)

@@ -1,7 +1,7 @@
 -- What is kept through a list of searches, or through attempts from position to position: the table of the runner and what it read of
 -- the line ends that close the haystack, the steps that the automaton remembers, or what the machine read of these line ends.
 use Rattle.std.specs.Global.{Box}
-use Rattle.std.specs.Prelude.{◌≡◌, ◌≤◌, ◌+◌, ℕ, Bool, true, false, List, Option, Result, Some, None, IfSome, IfOk, IfErr, is_some, option_map, nat_eq, if◌then◌else◌}
+use Rattle.std.specs.Prelude.{◌≡◌, ◌≤◌, ◌+◌, ℕ, Bool, true, false, List, Option, Result, Some, None, IfSome, IfOk, IfErr, option_map, nat_eq, if◌then◌else◌}
 use Rattle.std.specs.Option.{ForSome}
 use Rattle.fancy_tree.specs.declared.error.Error.{Error}
 use Rattle.fancy_input.specs.LastLines.{KnowsLastLines}
@@ -13,9 +13,6 @@ use Rattle.fancy_code.specs.declared.found.Found.{Found}
 use Rattle.fancy_runner.specs.declared.notes.Cache.{Cache as RunnerCache}
 use Rattle.fancy_runner.specs.declared.notes.KeptTable.{KeptTable}
 use Rattle.fancy_input.specs.declared.work.Work.{Work}
-use Rattle.fancy_states.specs.declared.cells.Cells.{Cells}
-use Rattle.fancy_states.specs.Cells.{IsBounded}
-use Rattle.fancy_states.specs.Remembered.{Remembers}
 use Rattle.fancy_machine.specs.Asked.{lines_held}
 use Rattle.fancy_search.specs.declared.asked.Asked.{Asked}
 use Rattle.fancy_search.specs.declared.cache.AttemptNotes.{AttemptNotes}
@@ -27,6 +24,7 @@ use Rattle.fancy_search.specs.declared.program.Program.{Program}
 use Rattle.fancy_search.specs.declared.searcher.Searcher.{Searcher}
 use Rattle.fancy_search.specs.Options.{search_options}
 use Rattle.fancy_search.specs.Programs.{program_length}
+use Rattle.fancy_search.specs.StepsOf.{AreStepsOf}
 
 -- steps are kept
 abbrev pub is_steps : Kept → Bool
@@ -85,13 +83,9 @@ SpendsSteps program request kept cache before left cache' after place =
 abbrev pub KeepsOn : Kept → Kept → Type 0
 KeepsOn before after = (after ≡ Nothing → ⊥) × ForSome (table_kept before) (λ k. option_map (λ (l : KeptTable). l.base) (table_kept after) ≡ Some k.base)
 
--- The steps that the automaton remembers are of the program's code.
-abbrev pub KeepsSteps : Program → Cells → Type 0
-KeepsSteps program cells = Remembers cells program.code × IsBounded cells
-
--- some are held, and these are
+-- those that are held, if any are, are of the program's code
 abbrev pub HoldsSteps : Program → Option (Box RememberedSteps) → Type 0
-HoldsSteps program held = (is_some held ≡ true) × IfSome held (λ steps. KeepsSteps program steps.value.cells)
+HoldsSteps program held = ForSome held (λ steps. AreStepsOf program.code steps.value)
 
 -- What attempts found out is kept for those at `place` or later. It is the same whichever positions the request tries.
 abbrev pub KeepsNotes : Program → List ℕ → Request → ℕ → AttemptNotes → Type 0
@@ -130,7 +124,7 @@ KeepsLines haystack cache = KnowsLastLines haystack (lines_held cache.machine)
 -- what is kept in the cache, if anything is, is for searches with the program that start at `place` or later
 abbrev pub IsKeptIn : Program → List ℕ → Request → Kept → ℕ → Cache → Type 0
 IsKeptIn program haystack request kept place cache =
-    ForSome (table_kept kept) (λ k. KeepsTable program haystack request k place cache.runner) × (is_steps kept ≡ true → KeepsSteps program cache.steps.cells)
+    ForSome (table_kept kept) (λ k. KeepsTable program haystack request k place cache.runner) × (is_steps kept ≡ true → HoldsSteps program cache.steps)
     × (kept ≡ Lines → KeepsLines haystack cache)
 
 -- and for those that ask the same, but start at `place` or later

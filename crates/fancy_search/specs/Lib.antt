@@ -20,4 +20,5 @@ pub mod ByteSets
 pub mod Starts
 pub mod OneItem
 pub mod Straight
+pub mod StepsOf
 pub mod KeptTables

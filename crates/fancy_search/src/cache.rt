@@ -1,16 +1,12 @@
 //! What searches work in, by whichever engine.
 
-ghost use Rattle.std.specs.Prelude.{◌≡◌, ℕ, List, [], None, IfOk, IfErr, IfSome, true, slice_index_or};
-ghost use Rattle.fancy_states.specs.Cells.{IsBounded};
-ghost use Rattle.fancy_states.specs.Remembered.{Remembers};
+ghost use Rattle.std.specs.Prelude.{◌≡◌, ℕ, List, [], None, Some, option_map, IfOk, IfErr, IfSome, true, slice_index_or};
 ghost use Rattle.fancy_code.specs.declared.code.Code.{Code};
 ghost use Rattle.fancy_input.specs.Work.{steps_of, returns_of, units_of};
 
-use crate::following::{LEAST_WORTH, MOST_WORTH, SHORT, TABLE, WORTH};
+use crate::following::SHORT;
 use crate::read_past::ReadPast;
 use fancy_bytes::lacking::KnownBytes;
-use fancy_code::code::Code;
-use fancy_input::input::Request;
 use fancy_input::span::Span;
 use fancy_input::work::Work;
 use fancy_machine::search as machine;
@@ -63,14 +59,14 @@ impl Kept {
         }
     }
 
-    /// Whether a search from `first` up to `end`, byte offsets, may be worth the automaton's steps: it is a search alone, or the first
-    /// one, of a text that is not short, or the automaton is to serve after such a one.
+    /// Whether a search that takes so many steps at most may be worth the automaton's: it is a search alone, or the first one, and takes
+    /// many, or the automaton is to serve after such a one.
     #[inline(always)]
-    pub(crate) fn is_worth_steps(self, first: usize, end: usize) -> bool
+    pub(crate) fn is_worth_steps(self, most: usize) -> bool
         ensures { result ≡ true → table_kept self ≡ None }
     {
         match self {
-            Kept::Nothing => end.saturating_sub(first) >= SHORT,
+            Kept::Nothing => most >= SHORT,
             Kept::Begun(_) | Kept::Steps => true,
             Kept::Runner(_) | Kept::Lines => false,
         }
@@ -88,25 +84,6 @@ impl Kept {
         matches!(self, Kept::Steps)
     }
 
-    /// How long the runner serves before the automaton does, from a search for this on. `None` where it does not: its patience is over, or
-    /// its table would be large.
-    pub(crate) fn patience(self, request: Request, code: &Code) -> Option<Patience> {
-        let (first, end) = (request.effective_start(), request.range_end);
-        let bits = end.saturating_sub(first).saturating_mul(code.marks());
-        match self {
-            Kept::Nothing if bits <= TABLE => Some(Patience {
-                steps: code
-                    .len()
-                    .saturating_mul(WORTH)
-                    .clamp(LEAST_WORTH, MOST_WORTH),
-                taken: 0,
-                first,
-            }),
-            Kept::Begun(patience) if !patience.is_over(0, first, end) => Some(patience),
-            _ => None,
-        }
-    }
-
     /// Whether it is kept what the machine read.
     pub(crate) fn is_lines(self) -> bool
         ensures { result ≡ true → self ≡ Kept.Lines }
@@ -115,7 +92,7 @@ impl Kept {
     }
 }
 
-/// The steps that the automaton remembers, and how far the searches by it read on.
+/// The steps that the automaton remembers of some code, and how far the searches by it read on.
 #[derive(Drop)]
 pub struct RememberedSteps {
     pub(crate) cells: Cells,
@@ -123,40 +100,26 @@ pub struct RememberedSteps {
 }
 
 impl RememberedSteps {
-    ghost use Rattle.fancy_search.specs.KeptTables.{is_steps};
+    ghost use Rattle.fancy_search.specs.StepsOf.{AreStepsOf};
 
-    /// None is remembered, and no memory is taken.
-    pub(crate) fn new(alloc: Global) -> RememberedSteps {
-        RememberedSteps {
-            cells: Cells::new(alloc),
+    /// None is remembered yet.
+    pub(crate) fn new(alloc: Global) -> Result<Box<RememberedSteps>, AllocError>
+        ensures { (code : Code) → IfOk result (λ steps. AreStepsOf code steps.value) }
+    {
+        let mut cells = Cells::new(alloc);
+        cells.clear(0);
+        let steps = RememberedSteps {
+            cells,
             read: ReadPast::new(0),
-        }
+        };
+        Ok(Box::new(alloc, steps)?)
     }
 
-    /// Makes them ready for a search of a haystack of so many bytes that begins at `first`, a byte offset: those of the searches
-    /// before stay, where they are kept, and else none is remembered. They are kept then.
-    #[inline(always)]
-    pub(crate) fn ready(&mut self, kept: &mut Kept, bytes: usize, first: usize)
-        requires within { is_steps kept.old ≡ true → IsBounded self.old.cells }
-        ensures within { IsBounded self.new.cells }
-        ensures all { (code : Code) → (is_steps kept.old ≡ true → Remembers self.old.cells code)
-            → Remembers self.new.cells code }
-        ensures kept { kept.new ≡ Kept.Steps }
+    /// Makes them ready for searches of a haystack of so many bytes, of which the first begins at `first`, a byte offset.
+    pub(crate) fn go_on(&mut self, bytes: usize, first: usize)
+        ensures { (code : Code) → AreStepsOf code self.old → AreStepsOf code self.new }
     {
-        if matches!(kept, Kept::Steps) {
-            return;
-        }
-        self.begin(bytes, first);
-        *kept = Kept::Steps;
-    }
-
-    /// Forgets all, before searches of a haystack of so many bytes, of which the first begins at `first`, a byte offset.
-    #[inline(never)]
-    fn begin(&mut self, bytes: usize, first: usize)
-        ensures within { IsBounded self.new.cells }
-        ensures all { (code : Code) → Remembers self.new.cells code }
-    {
-        self.cells.clear(bytes);
+        self.cells.make_room(bytes);
         self.read = ReadPast::new(first);
     }
 
@@ -213,7 +176,7 @@ impl AttemptNotes {
     pub(crate) fn kept_steps(&self) -> Option<&RememberedSteps>
         ensures kept { IfSome result (λ _. is_steps self.now.kept ≡ true) }
         ensures held { IfSome result (λ steps.
-            IfSome self.now.steps (λ held. steps.now ≡ held.value)) }
+            option_map (λ held. held.value) self.now.steps ≡ Some steps.now) }
     {
         if !matches!(self.kept, Kept::Steps) {
             return None;
@@ -221,18 +184,6 @@ impl AttemptNotes {
         match &self.steps {
             Some(steps) => Some(steps),
             None => None,
-        }
-    }
-
-    /// Takes the steps that the automaton remembers out of the notes. Where there are none yet, memory for them is taken.
-    pub(crate) fn take_steps(&mut self, alloc: Global) -> Result<Box<RememberedSteps>, AllocError>
-        ensures given { IfOk result (λ steps. IfSome self.old.steps (λ held. steps ≡ held)) }
-        ensures refused { IfErr result (λ _. self.old.steps ≡ None) }
-        ensures others { self.new ≡ record self.old { steps = None } }
-    {
-        match self.steps.take() {
-            Some(steps) => Ok(steps),
-            None => Ok(Box::new(alloc, RememberedSteps::new(alloc))?),
         }
     }
 }
@@ -271,7 +222,7 @@ impl AttemptCache {
 pub struct Cache {
     pub(crate) runner: runner::Cache,
     pub(crate) machine: machine::Cache,
-    pub(crate) steps: RememberedSteps,
+    pub(crate) steps: Option<Box<RememberedSteps>>,
     /// Which engine worked in it last.
     pub(crate) served: Engine,
 }
@@ -286,7 +237,7 @@ impl Cache {
         Cache {
             runner: runner::Cache::new(alloc),
             machine: machine::Cache::new(alloc),
-            steps: RememberedSteps::new(alloc),
+            steps: None,
             served: Engine::Runner,
         }
     }

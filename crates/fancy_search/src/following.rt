@@ -19,8 +19,11 @@ pub(crate) const LEAST_WORTH: usize = 512;
 /// They take about as long as so many of the runner at most: of long code few instructions are met.
 pub(crate) const MOST_WORTH: usize = 2048;
 
-/// In a text of fewer bytes the runner serves alone.
-pub(crate) const SHORT: usize = 256;
+/// A search of a list by the runner takes about as long as so many more of its steps.
+pub(crate) const SEARCH: usize = 8;
+
+/// A search that takes fewer steps at most is served by the runner alone.
+pub(crate) const SHORT: usize = 2000;
 
 /// The runner does not begin where its table would have more bits: it asks for all of them at once, one MiB here.
 pub(crate) const TABLE: usize = 8_388_608;

@@ -12,4 +12,5 @@ pub mod options;
 pub mod program;
 mod read_past;
 pub mod searcher;
+mod step_pool;
 mod straight;

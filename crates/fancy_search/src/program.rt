@@ -27,6 +27,8 @@ ghost use Rattle.fancy_bytes.specs.Lacks.{AreKnown, AreRequired};
 ghost use Rattle.fancy_splits.specs.Told.{ArePrices};
 ghost use Rattle.fancy_splits.specs.Once.{prices_once};
 ghost use Rattle.fancy_search.specs.Readings.{Reading, one_reading};
+ghost use Rattle.fancy_search.specs.StepsOf.{AreStepsOf};
+ghost use Rattle.fancy_search.specs.declared.cache.RememberedSteps.{RememberedSteps};
 ghost use Rattle.fancy_search.specs.Followed.{FollowsEach};
 ghost use Rattle.fancy_search.specs.Compiled.{IsSpelled, IsCompiled};
 ghost use Rattle.fancy_search.specs.Options.{meaning_in, dialect_of, is_easy_under, search_options};
@@ -40,9 +42,10 @@ ghost use Rattle.fancy_search.specs.declared.straight.StraightEnd.TheVariants.{L
 use crate::asked::Asked;
 use crate::begun::Begun;
 use crate::cache::{AttemptCache, AttemptNotes, Cache, Engine, Kept, RememberedSteps};
-use crate::following::{is_worth_following, leaps};
+use crate::following::{LEAST_WORTH, MOST_WORTH, SEARCH, TABLE, WORTH, is_worth_following, leaps};
 use crate::one_item::is_one_item;
 use crate::options::Options;
+use crate::step_pool::StepPool;
 use crate::straight::{StraightEnd, past_straight, past_turns, straight_end};
 use fancy_automaton::search as automaton;
 use fancy_bytes::lacking::{KnownBytes, RequiredBytes};
@@ -74,8 +77,8 @@ const SHORT_HAYSTACK: usize = 256;
 /// A pattern that was read and compiled under options.
 ///
 /// Which engine serves its searches is decided once: the memoised runner an easy pattern, and the backtracking machine a
-/// hard one. Where the runner would make many attempts or long ones, it begins a search of a text that is not short, and an automaton goes
-/// on with it, if that follows the code. One whose code is straight needs no engine: its items are read where a match may begin, and those of a
+/// hard one. Where the runner would make many attempts or long ones, it begins a search, and an automaton goes on with it, if that follows the
+/// code. One whose code is straight needs no engine: its items are read where a match may begin, and those of a
 /// loop at its end after them.
 pub struct Program {
     options: Options,
@@ -91,14 +94,18 @@ pub struct Program {
     straight: Option<StraightEnd>,
     /// Whether the automaton follows the code.
     plain: bool,
-    /// Whether searches are worth its steps, in texts that are not short.
+    /// Whether searches are worth its steps.
     worth_following: bool,
     /// The bytes that every haystack with a match has.
     required: RequiredBytes,
     /// What is told of the machine's attempts.
     prices: Prices,
+    /// The steps that a search by the automaton left for later ones.
+    pool: StepPool,
     pub ghost reading: { Reading options (string_bytes text) } by { one_reading options (string_bytes text) },
     pub ghost compiled: { ∥ IsCompiled reading.0 code (names_of names) ∥₁ },
+    ghost pooled: { (steps : RememberedSteps) → (AreStepsOf pool.left steps → AreStepsOf code steps)
+        × (AreStepsOf code steps → AreStepsOf pool.left steps) },
     ghost handed: { for_search ≡ search_options options },
     ghost meant: { code.meaning ≡ meaning_in options },
     ghost short: { code_len code ≤ 4 * nodes reading.0 + 2 },
@@ -131,6 +138,7 @@ impl Drop for Program {
             worth_following: _,
             required: _,
             prices: _,
+            pool: _,
         } = self;
     }
 }
@@ -183,7 +191,7 @@ impl Program {
     ghost use Rattle.fancy_search.specs.Begun.{IsBegun};
     ghost use Rattle.fancy_search.specs.Served.{IsPosition, IsFollowable, StandsIn, KeepsCounts, CountsReturns, HeedsStackLimit, Serves, ServesAlone, ServesEasily};
     ghost use Rattle.fancy_search.specs.Starts.{may_start, NeverHolds, EndsByOne};
-    ghost use Rattle.fancy_search.specs.KeptTables.{KeepsTable, KeepsSteps, IsKeptIn, IsKeptFor, KeepsNotes, LeavesNotes, table_kept, ahead_with, most_with, notes_to_go, TakesStepsToGo, SpendsSteps, KeepsOn, notes_ahead, is_steps, keeps_no_table};
+    ghost use Rattle.fancy_search.specs.KeptTables.{KeepsTable, HoldsSteps, IsKeptIn, IsKeptFor, KeepsNotes, LeavesNotes, table_kept, ahead_with, most_with, notes_to_go, TakesStepsToGo, SpendsSteps, KeepsOn, notes_ahead, is_steps, keeps_no_table};
     ghost use Rattle.fancy_input.specs.LastLines.{KnowsLastLines};
     ghost use Rattle.fancy_machine.specs.Asked.{HeedsLimit, groups_held, lines_held};
 
@@ -219,6 +227,7 @@ impl Program {
         let prices = prices_of(alloc, &code, easy)?;
         let text = String::from_str(alloc, pattern)?;
         let for_search = options.for_search();
+        let pool = StepPool::new(&code);
         Ok(Program {
             options,
             for_search,
@@ -232,6 +241,7 @@ impl Program {
             worth_following,
             required,
             prices,
+            pool,
         })
     }
 
@@ -329,7 +339,9 @@ impl Program {
     {
         let mut kept = Kept::Nothing;
         let mut known = KnownBytes::new();
-        self.search_next(asked, &mut kept, &mut known, cache, work)
+        let found = self.search_next(asked, &mut kept, &mut known, cache, work)?;
+        self.leave(kept, cache);
+        Ok(found)
     }
 
     /// The first match, as [`Program::search`] finds it, without its groups. What the engine works in is made for this search, and only
@@ -397,15 +409,22 @@ impl Program {
     {
         let mut request = request;
         let mut kept = Kept::Nothing;
-        if let Some(patience) = kept.patience(request, &self.code) {
+        if let Some(patience) = self.first_patience(request) {
+            let before = work.steps();
             let mut cache = runner::Cache::new(*self.text.allocator());
             match self.begin(haystack, request, patience, &mut cache, work)? {
-                Begun::Ended(found) => return Ok(found),
+                Begun::Ended(found) => {
+                    self.pool.spend(work.steps() - before);
+                    return Ok(found);
+                }
                 Begun::Left(rest) => request = rest,
             }
         }
-        let mut steps = RememberedSteps::new(*self.text.allocator());
-        self.follow(haystack, request, &mut kept, &mut steps, work)
+        let first = request.effective_start();
+        let mut steps = self.steps_for(kept, None, haystack.len(), first)?;
+        let found = self.follow(haystack, request, &mut kept, &mut steps, work);
+        self.pool.leave(steps);
+        found
     }
 
     /// The same for a hard pattern.
@@ -442,6 +461,8 @@ impl Program {
         ensures known { AreKnown known.new asked.now.haystack.now }
         ensures served { Serves self.now asked.now result cache.old cache.new work.old work.new }
         ensures kept { IfFound result (λ f. IsKeptFor self.now asked.now kept.new f.end cache.new) }
+        ensures held { IfOk result (λ _. is_steps kept.new ≡ true
+            → HoldsSteps self.now cache.new.steps) }
         ensures fresh { program_is_easy self.now ≡ true → kept.old ≡ Kept.Nothing
             → steps_of work.new ≤ steps_of work.old + step_bound self.now asked.now.request.now }
         ensures bounded { program_is_easy self.now ≡ true
@@ -485,6 +506,8 @@ impl Program {
         ensures served { ServesEasily self.now (query_in self.now asked.now) result
             cache.old cache.new work.old work.new }
         ensures kept { IfFound result (λ f. IsKeptFor self.now asked.now kept.new f.end cache.new) }
+        ensures held { IfOk result (λ _. is_steps kept.new ≡ true
+            → HoldsSteps self.now cache.new.steps) }
         ensures fresh { kept.old ≡ Kept.Nothing
             → steps_of work.new ≤ steps_of work.old + step_bound self.now asked.now.request.now }
         ensures bounded { TakesStepsToGo self.now asked.now.request.now
@@ -497,21 +520,18 @@ impl Program {
             → AllowsAllSteps self.now asked.now.request.now work.old → IsOutOfSteps result → ⊥ }
     {
         if self.is_followed(asked, kept) && self.allows_all_steps(*asked.request, work) {
-            if !kept.is_steps() {
-                // a copy is lent, so that the other has no address
-                let mut left = *kept;
-                let found = self.search_followed(
-                    asked.haystack,
-                    *asked.request,
-                    &mut left,
-                    cache,
-                    work,
-                );
-                *kept = left;
-                return found;
+            if kept.is_steps()
+                && let Some(steps) = &mut cache.steps
+            {
+                cache.served = Engine::WithoutGroups(self.code.groups);
+                return self.follow(asked.haystack, *asked.request, kept, steps, work);
             }
-            cache.served = Engine::WithoutGroups(self.code.groups);
-            return self.follow(asked.haystack, *asked.request, kept, &mut cache.steps, work);
+            // a copy is lent, so that the other has no address
+            let mut left = *kept;
+            let (haystack, request) = (asked.haystack, *asked.request);
+            let found = self.search_followed(haystack, request, &mut left, cache, work);
+            *kept = left;
+            return found;
         }
         if self.is_read(asked, kept) && self.allows_all_steps(*asked.request, work) {
             cache.served = Engine::WithoutGroups(self.code.groups);
@@ -542,33 +562,67 @@ impl Program {
         requires unanchored { request.anchored ≡ false }
         requires room { HasRoomFor self.now request work.old }
         requires allowed { AllowsAllSteps self.now request work.old }
-        requires kept { is_steps kept.old ≡ true → KeepsSteps self.now cache.old.steps.cells }
+        requires kept { is_steps kept.old ≡ true → HoldsSteps self.now cache.old.steps }
         ensures answer { IfOk result (λ m. (on : Bool)
             → IsAnswerIn m cache.new (asked_of self.now haystack.now request on)) }
         ensures counts { KeepsCounts self.now result work.old work.new }
         ensures idle { (on : Bool) → NoneTried (program_options self.now).seek
             (asked_of self.now haystack.now request on) → steps_of work.new ≡ steps_of work.old }
         ensures kept { IfOk result (λ _. is_steps kept.new ≡ true
-            → KeepsSteps self.now cache.new.steps.cells) }
+            → HoldsSteps self.now cache.new.steps) }
         ensures left { IfOk result (λ _. keeps_no_table kept.new ≡ true) }
         ensures bounded { steps_of work.new ≤ steps_of work.old + step_bound self.now request }
         ensures refused { IfErr result (λ e. e ≡ Error.Memory) }
         ensures apart { cache.new.machine ≡ cache.old.machine }
     {
         let mut request = request;
-        if let Some(patience) = kept.patience(request, &self.code) {
+        if let Some(patience) = self.patience(*kept, request) {
             let before = work.steps();
             cache.served = Engine::Runner;
             match self.begin(haystack, request, patience, &mut cache.runner, work)? {
                 Begun::Ended(found) => {
-                    *kept = Kept::Begun(patience.after(work.steps() - before));
+                    let taken = (work.steps() - before).saturating_add(SEARCH);
+                    *kept = Kept::Begun(patience.after(taken));
                     return Ok(found);
                 }
                 Begun::Left(rest) => request = rest,
             }
         }
         cache.served = Engine::WithoutGroups(self.code.groups);
-        self.follow(haystack, request, kept, &mut cache.steps, work)
+        let first = request.effective_start();
+        let mut steps = self.steps_for(*kept, cache.steps.take(), haystack.len(), first)?;
+        let found = self.follow(haystack, request, kept, &mut steps, work);
+        cache.steps = Some(steps);
+        found
+    }
+
+    /// How long the runner serves before the automaton does, from a search for this on, where this is kept. `None` where it does not: its
+    /// patience is over, or its table would be large.
+    fn patience(&self, kept: Kept, request: Request) -> Option<Patience> {
+        match kept {
+            Kept::Nothing => self.first_patience(request),
+            Kept::Begun(patience)
+                if !patience.is_over(0, request.effective_start(), request.range_end) => {
+                Some(patience)
+            }
+            _ => None,
+        }
+    }
+
+    /// The same from a first search on.
+    fn first_patience(&self, request: Request) -> Option<Patience> {
+        let first = request.effective_start();
+        let places = request.range_end.saturating_sub(first);
+        if places.saturating_mul(self.code.marks()) > TABLE {
+            return None;
+        }
+        let computed = self.code.len().saturating_mul(WORTH);
+        let steps = self.pool.worth(computed.clamp(LEAST_WORTH, MOST_WORTH))?;
+        Some(Patience {
+            steps,
+            taken: 0,
+            first,
+        })
     }
 
     /// The search for an easy pattern by the runner, as long as its patience lasts. What it leaves has the same answer, and its steps and
@@ -725,13 +779,19 @@ impl Program {
             return false;
         }
         let (first, end) = (asked.request.effective_start(), asked.request.range_end);
-        if !kept.is_worth_steps(first, end) {
+        if !kept.is_worth_steps(self.most_steps(first, end)) {
             return false;
         }
         if kept.is_nothing() && leaps(&self.code.prefilter, asked.haystack, first, end) {
             return false;
         }
         self.can_follow(asked.text)
+    }
+
+    /// How many steps an easy search takes at most from `first` up to `end`, byte offsets.
+    #[inline(always)]
+    fn most_steps(&self, first: usize, end: usize) -> usize {
+        self.code.len().saturating_mul(end.saturating_sub(first))
     }
 
     /// Whether the limit of steps allows all that an easy search takes at most, besides what was done before.
@@ -750,6 +810,46 @@ impl Program {
         }
     }
 
+    /// Steps of the automaton for searches of a haystack of so many bytes, of which the first begins at `first`, a byte offset: those that
+    /// are held, where they are kept, else those that a search left, and else new ones.
+    fn steps_for(
+        &self,
+        kept: Kept,
+        held: Option<Box<RememberedSteps>>,
+        bytes: usize,
+        first: usize,
+    ) -> std::result::Result<Box<RememberedSteps>, AllocError>
+        requires kept { is_steps kept ≡ true → HoldsSteps self.now held }
+        ensures { IfOk result (λ steps. AreStepsOf self.now.code steps.value) }
+    {
+        if kept.is_steps()
+            && let Some(steps) = held
+        {
+            return Ok(steps);
+        }
+        let mut steps = match self.pool.take() {
+            Some(left) => left,
+            None => RememberedSteps::new(*self.text.allocator())?,
+        };
+        steps.go_on(bytes, first);
+        Ok(steps)
+    }
+
+    /// Leaves what is kept to later searches.
+    pub(crate) fn leave(&self, kept: Kept, cache: &mut Cache)
+        requires kept { is_steps kept ≡ true → HoldsSteps self.now cache.old.steps }
+        ensures others { cache.new ≡ record cache.old { steps = cache.new.steps } }
+    {
+        if let Kept::Begun(patience) = kept {
+            self.pool.spend(patience.taken);
+        }
+        if kept.is_steps()
+            && let Some(steps) = cache.steps.take()
+        {
+            self.pool.leave(steps);
+        }
+    }
+
     /// The search for an easy pattern, by the automaton. No group takes part in what it finds.
     #[inline(always)]
     fn follow(
@@ -763,14 +863,14 @@ impl Program {
         requires followable { IsFollowable self.now haystack.now request }
         requires paired { returns_of work.old ≤ steps_of work.old }
         requires allowed { AllowsAllSteps self.now request work.old }
-        requires kept { is_steps kept.old ≡ true → KeepsSteps self.now steps.old.cells }
+        requires kept { AreStepsOf self.now.code steps.old }
         ensures answer { IfOk result (λ m. (on : Bool)
             → answer_with (replicate (program_groups self.now) None) m
             ≡ search (asked_of self.now haystack.now request on)) }
         ensures counts { KeepsCounts self.now result work.old work.new }
         ensures idle { (on : Bool) → NoneTried (program_options self.now).seek
             (asked_of self.now haystack.now request on) → steps_of work.new ≡ steps_of work.old }
-        ensures kept { KeepsSteps self.now steps.new.cells }
+        ensures kept { AreStepsOf self.now.code steps.new }
         ensures left { keeps_no_table kept.new ≡ true }
         ensures bounded { steps_of work.new ≤ steps_of work.old + step_bound self.now request }
         ensures returns { returns_of work.new ≡ returns_of work.old }
@@ -778,7 +878,7 @@ impl Program {
         ensures refused { IfErr result (λ e. e ≡ Error.Memory) }
     {
         let first = request.effective_start();
-        steps.ready(kept, haystack.len(), first);
+        *kept = Kept::Steps;
         let options = self.options.for_search();
         match automaton::find(
             &self.code,
@@ -1004,24 +1104,21 @@ impl Program {
     {
         let from_position = anchored_at(*asked.request, position);
         let followed = self.is_followed_at(asked, from_position, &notes.kept, work);
-        let patience = if followed {
-            notes.kept.patience(from_position, &self.code)
-        } else {
-            None
-        };
-        if followed && patience.is_none() {
-            return self.follow_at(asked, position, notes, &mut cache.engines, work);
+        if !followed {
+            return self.attempt_at(asked, position, notes, cache, work);
         }
+        let Some(patience) = self.patience(notes.kept, from_position) else {
+            return self.follow_at(asked, position, notes, &mut cache.engines, work);
+        };
         let before = work.steps();
         let found = self.attempt_at(asked, position, notes, cache, work);
-        if let Some(patience) = patience {
-            notes.kept = Kept::Begun(patience.after(work.steps() - before));
-        }
+        let taken = (work.steps() - before).saturating_add(SEARCH);
+        notes.kept = Kept::Begun(patience.after(taken));
         found
     }
 
-    /// Whether the automaton may serve an attempt of a list: where it follows the code, the text is not short, and the limit of steps allows
-    /// all. That is so from the first attempt on or never, and no longer once it was not.
+    /// Whether the automaton may serve an attempt of a list: where it follows the code, the search may take many steps, and the limit of
+    /// steps allows all. That is so from the first attempt on or never, and no longer once it was not.
     fn is_followed_at(
         &self,
         asked: &Asked<'_>,
@@ -1039,7 +1136,8 @@ impl Program {
         if !self.easy || !self.can_follow(asked.text) {
             return false;
         }
-        kept.is_worth_steps(from_position.effective_start(), from_position.range_end)
+        let (first, end) = (from_position.effective_start(), from_position.range_end);
+        kept.is_worth_steps(self.most_steps(first, end))
             && self.allows_all_steps(from_position, work)
     }
 
@@ -1071,9 +1169,8 @@ impl Program {
         ensures refused { IfErr result (RefusesEasy self.now) }
     {
         let from_position = anchored_at(*asked.request, position);
-        let Ok(mut steps) = notes.take_steps(*self.text.allocator()) else {
-            return Err(Error::Memory);
-        };
+        let (bytes, first) = (asked.haystack.len(), from_position.effective_start());
+        let mut steps = self.steps_for(notes.kept, notes.steps.take(), bytes, first)?;
         cache.served = Engine::WithoutGroups(self.code.groups);
         let kept = &mut notes.kept;
         let found = self.follow(asked.haystack, from_position, kept, &mut steps, work);
@@ -1139,7 +1236,7 @@ impl Program {
     ) -> Option<Option<Found>>
         requires followable { IsFollowable self.now haystack.now request }
         requires anchored { request.anchored ≡ true }
-        requires kept { KeepsSteps self.now steps.now.cells }
+        requires kept { AreStepsOf self.now.code steps.now }
         ensures { IfSome result (λ m. (on : Bool)
             → answer_with (replicate (program_groups self.now) None) m
             ≡ search (asked_of self.now haystack.now request on)) }

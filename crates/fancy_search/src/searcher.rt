@@ -75,8 +75,21 @@ pub struct Searcher<S: Haystack> {
     pub ghost looked: { AreKnown known (S.bytes haystack) },
 }
 
+impl<S: Haystack> Searcher<S> {
+    ghost use Rattle.fancy_search.specs.KeptTables.{Keeps};
+
+    /// Leaves what the searches before found out to those of other lists, where the list did not end.
+    pub fn leave(&self, program: &Program, cache: &mut Cache)
+        requires kept { Keeps S.bytes program.now self.now cache.old }
+    {
+        if !self.ended {
+            program.leave(self.kept, cache);
+        }
+    }
+}
+
 impl<S: Input> Searcher<S> {
-    ghost use Rattle.fancy_search.specs.KeptTables.{KeepsFrom, Keeps};
+    ghost use Rattle.fancy_search.specs.KeptTables.{HoldsSteps, KeepsFrom, Keeps, is_steps};
     ghost use Rattle.fancy_search.specs.Searchers.{IsSuited, GoesTo, IsCutOut, KeepsEnd, scan_of, standing_of, answer_next, item_next, start_next, end_of_items, place_after, start_after, RefusesAnswer, RefusesItem, AllowsAnswer, AllowsItem};
     ghost use Rattle.fancy_search.specs.FoundItems.{item_in, HasGroupsOf, IsGiven, GivesItem};
     ghost use Rattle.fancy_search.specs.SearchCounts.{IfFound};
@@ -213,6 +226,8 @@ impl<S: Input> Searcher<S> {
         ensures item { IfFound result (λ i. IsGiven S.text S.bytes self.old i cache.new) }
         ensures kept { IfFound result
             (λ i. KeepsFrom S.bytes program.now self.new cache.new i.found.end) }
+        ensures held { IfOk result (λ _. is_steps self.new.kept ≡ true
+            → HoldsSteps program.now cache.new.steps) }
         ensures haystack { self.new.haystack ≡ self.old.haystack }
         ensures request { self.new.request ≡ self.old.request }
         ensures continues { self.new.continues ≡ self.old.continues }
@@ -255,6 +270,8 @@ impl<S: Input> Searcher<S> {
         ensures item { IfFound result (λ i. IsGiven S.text S.bytes self.old i cache.new) }
         ensures kept { IfFound result
             (λ i. KeepsFrom S.bytes program.now self.new cache.new i.found.end) }
+        ensures held { IfOk result (λ _. is_steps self.new.kept ≡ true
+            → HoldsSteps program.now cache.new.steps) }
         ensures haystack { self.new.haystack ≡ self.old.haystack }
         ensures request { self.new.request
             ≡ record self.old.request { start = self.new.request.start } }
@@ -311,6 +328,7 @@ impl<S: Input> Searcher<S> {
             }
             Ok(None) => {
                 self.ended = true;
+                program.leave(self.kept, cache);
                 None
             }
             Err(error) => {

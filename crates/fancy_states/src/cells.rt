@@ -131,16 +131,31 @@ impl Cells {
         self.reached
     }
 
+    /// About how many bytes so many rows and steps take, and so many entries of the table.
+    fn bytes_of(&self, rows: usize, cells: usize, entries: usize) -> usize {
+        let ways = self.rows.held.saturating_add(self.held);
+        ways.saturating_mul(WAY_BYTES)
+            .saturating_add(rows.saturating_mul(ROW_BYTES))
+            .saturating_add(cells.saturating_mul(CELL_BYTES))
+            .saturating_add(entries.saturating_mul(ENTRY_BYTES))
+    }
+
     /// About how many bytes the rows, the steps and the table take.
     fn bytes(&self) -> usize {
-        let ways = self.rows.held.saturating_add(self.held);
-        let rows = self.rows.lists.len().saturating_mul(ROW_BYTES);
-        let cells = self.cells.len().saturating_mul(CELL_BYTES);
-        let table = self.table.entries.len().saturating_mul(ENTRY_BYTES);
-        ways.saturating_mul(WAY_BYTES)
-            .saturating_add(rows)
-            .saturating_add(cells)
-            .saturating_add(table)
+        self.bytes_of(
+            self.rows.lists.len(),
+            self.cells.len(),
+            self.table.entries.len(),
+        )
+    }
+
+    /// About how many bytes of memory they hold, with what is held of those that were forgotten.
+    pub fn held_bytes(&self) -> usize {
+        self.bytes_of(
+            self.rows.lists.capacity(),
+            self.cells.capacity(),
+            self.table.entries.capacity(),
+        )
     }
 
     /// Whether one more step may be one too many.
@@ -172,8 +187,15 @@ impl Cells {
         ensures kept { IsBounded self.new }
         ensures all { (code : Code) → IsFor self.new code }
     {
+        self.make_room(bytes);
         self.forget();
         self.table.classes = Classes::new(self.alloc);
+    }
+
+    /// Takes as much memory from now on as is allowed in a haystack of so many bytes.
+    pub fn make_room(&mut self, bytes: usize)
+        ensures { self.new ≡ record self.old { room = self.new.room } }
+    {
         self.room = ROOM.saturating_add(bytes.min(MORE_ROOM));
     }
 

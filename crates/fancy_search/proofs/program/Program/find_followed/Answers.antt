@@ -12,16 +12,23 @@ returns-in-Ended-clause-answer c = (groups_in c.begin.new.cache, rw c.in-Ended.i
 
 pub returns-clause-answer : goal.returns-clause-answer
 returns-clause-answer c =
-    let same : (on : Bool) → search (asked_of c.args.self.now c.args.haystack.now c.match-patience.request on) ≡ search (asked_of c.args.self.now c.args.haystack.now c.args.request on) = λ on.
-    elim c.match-patience.branch [
+    let same : (on : Bool) → search (asked_of c.args.self.now c.args.haystack.now c.match-first_patience.request on) ≡ search (asked_of c.args.self.now c.args.haystack.now c.args.request on) = λ on.
+    elim c.match-first_patience.branch [
       | in-Some+in_ok-found+in-Left w ↦ rw w.request-is ((rw w.in-Left.is at w.in_ok-found.ensures.begun).same on on)
       | in_default w ↦ rw w.request-is refl
     ] in
-    if_ok _ _ (λ m is. (replicate (program_groups c.args.self.now) None, λ on. is on ∙ same on)) c.follow.result c.follow.ensures.answer
+    if_ok _ _ (λ m is. (replicate (program_groups c.args.self.now) None, λ on. is on ∙ same on)) c.follow-found.result c.follow-found.ensures.answer
 
 pub returns-clause-idle : goal.returns-clause-idle
 returns-clause-idle c on none =
-    elim c.match-patience.branch [
+    elim c.match-first_patience.branch [
       | in-Some+in_ok-found+in-Left w ↦ absurd ((rw w.in-Left.is at w.in_ok-found.ensures.begun).tried on none)
-      | in_default w ↦ c.follow.ensures.idle on (rw w.request-is none) ∙ ap steps_of w.work-is
+      | in_default w ↦ c.follow-found.ensures.idle on (rw w.request-is none) ∙ ap steps_of w.work-is
+    ]
+
+pub returns-in_err-steps-clause-idle : goal.returns-in_err-steps-clause-idle
+returns-in_err-steps-clause-idle c on none =
+    elim c.match-first_patience.branch [
+      | in-Some+in_ok-found+in-Left w ↦ absurd ((rw w.in-Left.is at w.in_ok-found.ensures.begun).tried on none)
+      | in_default w ↦ ap steps_of w.work-is
     ]

@@ -38,12 +38,16 @@ pub returns-in-Err-clause-idle : goal.returns-in-Err-clause-idle
 returns-in-Err-clause-idle c on none = nowhere c.args.self.now c.args.haystack.now c.args.request on _ _ (λ k. omega (arith, c.type_inv.haystack k)) none c.find.ensures.idle
 
 pub returns-after-not-serve_on-clause-kept : goal.returns-after-not-serve_on-clause-kept
-returns-after-not-serve_on-clause-kept c = rw c.serve_on.ensures.cells (remembers c.find.new.cells c.args.self.now.code c.find.ensures.all, c.find.ensures.kept)
+returns-after-not-serve_on-clause-kept c = record {
+  true_of = rw c.serve_on.ensures.cells (remembers c.find.new.cells c.args.self.now.code c.find.ensures.all);
+  within = rw c.serve_on.ensures.cells c.find.ensures.kept;
+}
 
 pub returns-in-Err-clause-kept : goal.returns-in-Err-clause-kept
-returns-in-Err-clause-kept c = (remembers c.find.new.cells c.args.self.now.code c.find.ensures.all, c.find.ensures.kept)
+returns-in-Err-clause-kept c = record {
+  true_of = remembers c.find.new.cells c.args.self.now.code c.find.ensures.all;
+  within = c.find.ensures.kept;
+}
 
 pub find-requires-clause-all : goal.find-requires-clause-all
-find-requires-clause-all c =
-    recalls c.ready.new.self.cells c.args.self.now.code
-    (c.ready.ensures.all c.args.self.now.code (λ e. (c.requires.kept e).0))
+find-requires-clause-all c = recalls c.args.steps.now.cells c.args.self.now.code c.requires.kept.true_of

@@ -43,6 +43,7 @@ compile-requires-clause-numbered c =
 
 pub invariant_of-result : goal.invariant_of-result
 invariant_of-result c = record {
+  pooled = λ steps. rw c.new-pool.ensures ((λ is. is), (λ is. is));
   reading = (pattern_of c.in_ok-tree.field-0.tree, ∣ spelled_in c.args.options c.in_ok-text.ensures.ok (rw c.parse_options.ensures at c.in_ok-tree.ensures.accepted.0) ∣₁);
   compiled = ∣ record {
     coded = c.in_ok-code.ensures.code;

@@ -5,8 +5,8 @@ use Rattle.fancy_search.proofs.program.Program.recall.Goals as goal
 
 pub find_told-requires-clause-kept : goal.find_told-requires-clause-kept
 find_told-requires-clause-kept c = record {
-  bounded = c.requires.kept.1;
-  all = recalls c.args.steps.now.cells c.args.self.now.code c.requires.kept.0;
+  bounded = c.requires.kept.within;
+  all = recalls c.args.steps.now.cells c.args.self.now.code c.requires.kept.true_of;
 }
 
 pub returns : goal.returns

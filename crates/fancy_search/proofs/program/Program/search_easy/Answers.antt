@@ -1,15 +1,18 @@
-use Rattle.std.proofs.Common.{refl, arith}
+use Rattle.std.proofs.Common.{◌≡◌, ◌∙◌, Some, refl, ap, arith}
+use Rattle.std.specs.Box.{with_value}
 use Rattle.std.proofs.lemmas.Result.{err_from_is_err_and}
 use Rattle.fancy_input.specs.Requests.{effective_start}
+use Rattle.fancy_search.specs.declared.cache.Cache.{Cache}
 use Rattle.fancy_search.specs.declared.cache.Engine.TheVariants.{Runner, WithoutGroups}
 use Rattle.fancy_search.specs.KeptTables.{KeepsTable, table_kept}
-use Rattle.fancy_search.proofs.KeptTablesLemmas.{if_some_at, found_table, found_steps, found_spent, found_goes_on}
+use Rattle.fancy_search.proofs.KeptTablesLemmas.{if_some_at, found_table, found_steps, steps_hold, found_spent, found_goes_on}
 use Rattle.fancy_runner.proofs.KeptTableLemmas.{again_paid}
 use Rattle.fancy_input.specs.Work.{steps_of}
 use Rattle.fancy_search.specs.SearchCounts.{RefusesEasy}
 use Rattle.fancy_search.proofs.ResultLemmas.{if_ok, if_err}
 use Rattle.fancy_search.proofs.StraightLemmas.{counts_kept}
 use Rattle.fancy_search.proofs.program.Program.search_easy.Goals as goal
+use Rattle.fancy_search.proofs.program.Program.search_easy.Goals.{else-is_steps-via-else-is_steps, else-is_steps-via-then-is_steps+in-None-1}
 
 pub run-requires-clause-kept : goal.run-requires-clause-kept
 run-requires-clause-kept c = if_some_at _ (table_kept c.args.kept.now) (λ k. KeepsTable c.args.self.now c.args.asked.now.haystack.now c.args.asked.now.request.now k (effective_start c.args.asked.now.request.now) c.args.cache.now.runner) c.table-table.ensures c.requires.kept.0
@@ -30,14 +33,18 @@ search_followed-found-requires-clause-followable c = record {
   places = c.if-is_followed.ensures.places refl;
 }
 
-pub returns-then-not-is_steps-clause-served : goal.returns-then-not-is_steps-clause-served
-returns-then-not-is_steps-clause-served c = record {
-  answer = if_ok _ _ (λ m is. is c.args.asked.now.continues) c.search_followed-found.result c.search_followed-found.ensures.answer;
-  counts = c.search_followed-found.ensures.counts;
-  idle = c.search_followed-found.ensures.idle c.args.asked.now.continues;
-  refused = if_err _ (RefusesEasy c.args.self.now) (λ e memory. rw memory tt) c.search_followed-found.result c.search_followed-found.ensures.refused;
-  apart = c.search_followed-found.ensures.apart;
-}
+pub returns-then-allows_all_steps-2-clause-served : goal.returns-then-allows_all_steps-2-clause-served
+returns-then-allows_all_steps-2-clause-served c =
+    let same = elim c.else-is_steps.branch as (λ _. c.else-is_steps.cache.machine ≡ c.args.cache.now.machine) [
+      | else-is_steps-via-else-is_steps w ↦ ap (λ (k : Cache). k.machine) w.cache-is
+      | else-is_steps-via-then-is_steps+in-None-1 w ↦ ap (λ (k : Cache). k.machine) w.cache-is
+    ] in record {
+      answer = if_ok _ _ (λ m is. is c.args.asked.now.continues) c.search_followed-found.result c.search_followed-found.ensures.answer;
+      counts = c.search_followed-found.ensures.counts;
+      idle = c.search_followed-found.ensures.idle c.args.asked.now.continues;
+      refused = if_err _ (RefusesEasy c.args.self.now) (λ e memory. rw memory tt) c.search_followed-found.result c.search_followed-found.ensures.refused;
+      apart = c.search_followed-found.ensures.apart ∙ same;
+    }
 
 pub returns-then-allows_all_steps-clause-served : goal.returns-then-allows_all_steps-clause-served
 returns-then-allows_all_steps-clause-served c = record {
@@ -102,10 +109,13 @@ returns-in_err-found-clause-fresh c none =
 
 pub returns-then-allows_all_steps-clause-kept : goal.returns-then-allows_all_steps-clause-kept
 returns-then-allows_all_steps-clause-kept c =
-    if_ok _ _ (λ m _. found_steps c.args.self.now c.args.asked.now.haystack.now (record c.args.cache.now { served = WithoutGroups c.args.self.now.code.groups; steps = c.follow.new.steps }) c.args.asked.now.request.now c.follow.new.kept m c.follow.ensures.left (λ _. c.follow.ensures.kept)) c.follow.result c.follow.ensures.answer
+    if_ok _ _ (λ m _. found_steps c.args.self.now c.args.asked.now.haystack.now
+    (record c.args.cache.now { served = WithoutGroups c.args.self.now.code.groups; steps = Some (with_value c.in-Some.steps c.follow.new.steps) })
+    c.args.asked.now.request.now c.follow.new.kept m c.follow.ensures.left (λ _. steps_hold c.args.self.now (with_value c.in-Some.steps c.follow.new.steps) c.follow.ensures.kept))
+    c.follow.result c.follow.ensures.answer
 
-pub returns-then-allows_all_steps-2-clause-served : goal.returns-then-allows_all_steps-2-clause-served
-returns-then-allows_all_steps-2-clause-served c = record {
+pub returns-then-allows_all_steps-2-2-clause-served : goal.returns-then-allows_all_steps-2-2-clause-served
+returns-then-allows_all_steps-2-2-clause-served c = record {
   answer = c.read.ensures.answer c.args.asked.now.continues;
   counts = counts_kept c.args.self.now c.args.asked.now.request.now c.read.result _ _ c.requires.room (c.if-allows_all_steps-2.ensures refl) c.read.ensures.counts;
   idle = c.read.ensures.idle c.args.asked.now.continues;

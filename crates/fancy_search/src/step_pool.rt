@@ -1,0 +1,126 @@
+//! Steps of the automaton that outlive a search.
+
+ghost use Rattle.std.specs.Prelude.{◌≡◌, IfSome};
+ghost use Rattle.fancy_search.specs.StepsOf.{AreStepsOf};
+
+use crate::cache::RememberedSteps;
+use counted_slot::{Counted, FREE, Fits, TAKEN};
+use fancy_code::code::Code;
+use std::sync::atomic::{AtomicBool, AtomicUsize, Ordering};
+
+/// Steps that hold more bytes are not left.
+const MOST_LEFT: usize = 524_288;
+
+/// To take steps that were left takes about as long as so many steps of the runner.
+const TAKING: usize = 32;
+
+/// The steps that a search left.
+#[derive(Drop)]
+pub(crate) struct LeftSteps {
+    steps: Box<RememberedSteps>,
+}
+
+impl Fits for LeftSteps {
+    type Tag = Code;
+
+    ghost fits = { λ code left. AreStepsOf code left.steps.value };
+}
+
+/// Where the searches with one program leave what they computed for later ones. Threads share it: where two search at once, one of them
+/// computes its own.
+pub(crate) struct StepPool {
+    /// Its tag is the program's code.
+    pub(crate) left: Counted<Option<LeftSteps>>,
+    // whether some are left, as far as this thread knows
+    is_left: AtomicBool,
+    // how many steps of the runner searches took that were not worth it: while none were left, all that they took, and then those past
+    // what it takes to take them
+    spent: AtomicUsize,
+}
+
+/// By hand, so that crates above do not prove it once more.
+impl Drop for StepPool {
+    fn drop(self) {
+        let StepPool {
+            left: _,
+            is_left: _,
+            spent: _,
+        } = self;
+    }
+}
+
+impl StepPool {
+    /// Nothing was left yet of this code.
+    pub(crate) fn new(code: &Code) -> StepPool
+        ensures { result.left ≡ code.now }
+    {
+        StepPool {
+            left: Counted::new(None, code),
+            is_left: AtomicBool::new(false),
+            spent: AtomicUsize::new(0),
+        }
+    }
+
+    /// For how many of its steps the runner serves before the automaton does, where it takes about as long as `computed` of them to compute
+    /// the automaton's first steps. To take those that were left takes less. `None` where so many were spent before.
+    pub(crate) fn worth(&self, computed: usize) -> Option<usize> {
+        let worth = if self.is_left.load(Ordering::Relaxed) {
+            TAKING
+        } else {
+            computed
+        };
+        let spent = self.spent.load(Ordering::Relaxed);
+        if spent < worth {
+            Some(worth - spent)
+        } else {
+            None
+        }
+    }
+
+    /// Notes that a search took so many steps of the runner.
+    pub(crate) fn spend(&self, steps: usize) {
+        let is_left = self.is_left.load(Ordering::Relaxed);
+        let spent = if is_left {
+            steps.saturating_sub(TAKING)
+        } else {
+            steps
+        };
+        if spent > 0 {
+            self.spent.fetch_add(spent, Ordering::Relaxed);
+        }
+    }
+
+    /// Takes the steps that were left.
+    pub(crate) fn take(&self) -> Option<Box<RememberedSteps>>
+        ensures { IfSome result (λ steps. AreStepsOf self.now.left steps.value) }
+    {
+        if !self.is_left.load(Ordering::Relaxed) {
+            self.spent.store(0, Ordering::Relaxed);
+            return None;
+        }
+        let (found, claim) = self.left.turn(FREE, TAKEN);
+        if found != FREE {
+            claim.done();
+            return None;
+        }
+        self.is_left.store(false, Ordering::Relaxed);
+        let LeftSteps { steps } = claim.put(None, FREE)?;
+        Some(steps)
+    }
+
+    /// Leaves steps for a later search, unless they hold much memory.
+    pub(crate) fn leave(&self, steps: Box<RememberedSteps>)
+        requires { AreStepsOf self.now.left steps.value }
+    {
+        if steps.cells.held_bytes() > MOST_LEFT {
+            return;
+        }
+        let (found, claim) = self.left.turn(FREE, TAKEN);
+        if found != FREE {
+            claim.done();
+            return;
+        }
+        self.is_left.store(true, Ordering::Relaxed);
+        let _before = claim.put(Some(LeftSteps { steps }), FREE);
+    }
+}
