@@ -4,9 +4,9 @@ ghost use Rattle.std.specs.Prelude.{◌≡◌, IfSome};
 ghost use Rattle.fancy_search.specs.StepsOf.{AreStepsOf};
 
 use crate::cache::RememberedSteps;
-use counted_slot::{Counted, FREE, Fits, TAKEN};
+use counted_slot::{Counted, FREE, Fits, PRESENT, TAKEN};
 use fancy_code::code::Code;
-use std::sync::atomic::{AtomicBool, AtomicUsize, Ordering};
+use std::sync::atomic::{AtomicUsize, Ordering};
 
 /// Steps that hold more bytes are not left.
 const MOST_LEFT: usize = 524_288;
@@ -29,10 +29,8 @@ impl Fits for LeftSteps {
 /// Where the searches with one program leave what they computed for later ones. Threads share it: where two search at once, one of them
 /// computes its own.
 pub(crate) struct StepPool {
-    /// Its tag is the program's code.
+    /// Its tag is the program's code. It is `FREE` while none are left, and `PRESENT` while some are.
     pub(crate) left: Counted<Option<LeftSteps>>,
-    // whether some are left, as far as this thread knows
-    is_left: AtomicBool,
     // how many steps of the runner searches took that were not worth it: while none were left, all that they took, and then those past
     // what it takes to take them
     spent: AtomicUsize,
@@ -41,11 +39,7 @@ pub(crate) struct StepPool {
 /// By hand, so that crates above do not prove it once more.
 impl Drop for StepPool {
     fn drop(self) {
-        let StepPool {
-            left: _,
-            is_left: _,
-            spent: _,
-        } = self;
+        let StepPool { left: _, spent: _ } = self;
     }
 }
 
@@ -56,19 +50,19 @@ impl StepPool {
     {
         StepPool {
             left: Counted::new(None, code),
-            is_left: AtomicBool::new(false),
             spent: AtomicUsize::new(0),
         }
+    }
+
+    /// Whether some are left.
+    fn is_left(&self) -> bool {
+        self.left.load() == PRESENT
     }
 
     /// For how many of its steps the runner serves before the automaton does, where it takes about as long as `computed` of them to compute
     /// the automaton's first steps. To take those that were left takes less. `None` where so many were spent before.
     pub(crate) fn worth(&self, computed: usize) -> Option<usize> {
-        let worth = if self.is_left.load(Ordering::Relaxed) {
-            TAKING
-        } else {
-            computed
-        };
+        let worth = if self.is_left() { TAKING } else { computed };
         let spent = self.spent.load(Ordering::Relaxed);
         if spent < worth {
             Some(worth - spent)
@@ -79,12 +73,8 @@ impl StepPool {
 
     /// Notes that a search took so many steps of the runner.
     pub(crate) fn spend(&self, steps: usize) {
-        let is_left = self.is_left.load(Ordering::Relaxed);
-        let spent = if is_left {
-            steps.saturating_sub(TAKING)
-        } else {
-            steps
-        };
+        let worth = if self.is_left() { TAKING } else { 0 };
+        let spent = steps.saturating_sub(worth);
         if spent > 0 {
             self.spent.fetch_add(spent, Ordering::Relaxed);
         }
@@ -94,21 +84,17 @@ impl StepPool {
     pub(crate) fn take(&self) -> Option<Box<RememberedSteps>>
         ensures { IfSome result (λ steps. AreStepsOf self.now.left steps.value) }
     {
-        if !self.is_left.load(Ordering::Relaxed) {
+        let (found, claim) = self.left.turn(PRESENT, TAKEN);
+        if found != PRESENT {
+            claim.done();
             self.spent.store(0, Ordering::Relaxed);
             return None;
         }
-        let (found, claim) = self.left.turn(FREE, TAKEN);
-        if found != FREE {
-            claim.done();
-            return None;
-        }
-        self.is_left.store(false, Ordering::Relaxed);
         let LeftSteps { steps } = claim.put(None, FREE)?;
         Some(steps)
     }
 
-    /// Leaves steps for a later search, unless they hold much memory.
+    /// Leaves steps for a later search, unless others are left or they hold much memory.
     pub(crate) fn leave(&self, steps: Box<RememberedSteps>)
         requires { AreStepsOf self.now.left steps.value }
     {
@@ -120,7 +106,6 @@ impl StepPool {
             claim.done();
             return;
         }
-        self.is_left.store(true, Ordering::Relaxed);
-        let _before = claim.put(Some(LeftSteps { steps }), FREE);
+        let _none = claim.put(Some(LeftSteps { steps }), PRESENT);
     }
 }
