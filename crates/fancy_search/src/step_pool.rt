@@ -11,9 +11,6 @@ use std::sync::atomic::{AtomicUsize, Ordering};
 /// Steps that hold more bytes are not left.
 const MOST_LEFT: usize = 524_288;
 
-/// To take steps that were left takes about as long as so many steps of the runner.
-const TAKING: usize = 32;
-
 /// The steps that a search left.
 #[derive(Drop)]
 pub(crate) struct LeftSteps {
@@ -31,8 +28,7 @@ impl Fits for LeftSteps {
 pub(crate) struct StepPool {
     /// Its tag is the program's code. It is `FREE` while none are left, and `PRESENT` while some are.
     pub(crate) left: Counted<Option<LeftSteps>>,
-    // how many steps of the runner searches took that were not worth it: while none were left, all that they took, and then those past
-    // what it takes to take them
+    // how many steps of the runner searches took while none were left
     spent: AtomicUsize,
 }
 
@@ -60,24 +56,22 @@ impl StepPool {
     }
 
     /// For how many of its steps the runner serves before the automaton does, where it takes about as long as `computed` of them to compute
-    /// the automaton's first steps. To take those that were left takes less. `None` where so many were spent before.
+    /// the automaton's first steps. `None` where steps are left, and where so many were spent before.
     pub(crate) fn worth(&self, computed: usize) -> Option<usize> {
-        let worth = if self.is_left() { TAKING } else { computed };
+        if self.is_left() {
+            return None;
+        }
         let spent = self.spent.load(Ordering::Relaxed);
-        if spent < worth {
-            Some(worth - spent)
+        if spent < computed {
+            Some(computed - spent)
         } else {
             None
         }
     }
 
-    /// Notes that a search took so many steps of the runner.
+    /// Notes that a search took so many steps of the runner while no steps of the automaton were left.
     pub(crate) fn spend(&self, steps: usize) {
-        let worth = if self.is_left() { TAKING } else { 0 };
-        let spent = steps.saturating_sub(worth);
-        if spent > 0 {
-            self.spent.fetch_add(spent, Ordering::Relaxed);
-        }
+        self.spent.fetch_add(steps, Ordering::Relaxed);
     }
 
     /// Takes the steps that were left.
