@@ -10,7 +10,7 @@ ghost use Rattle.fancy_core.specs.Regexes.{program_in, easy_in, group_count_in, 
 ghost use Rattle.fancy_search.specs.Cached.{IsAttemptIn, found_at};
 ghost use Rattle.fancy_search.specs.Programs.{query_in};
 ghost use Rattle.fancy_search.specs.Groups.{AreCut, spans_of};
-ghost use Rattle.fancy_search.specs.KeptTables.{KeepsNotes, kept_from, notes_ahead, notes_to_go};
+ghost use Rattle.fancy_search.specs.KeptTables.{HoldsSteps, KeepsNotes, is_steps, kept_from, notes_ahead, notes_to_go};
 ghost use Rattle.fancy_search.specs.SearchCounts.{IsOutOfSteps};
 ghost use Rattle.fancy_tree.specs.declared.error.Error.TheVariants.{Memory};
 
@@ -220,6 +220,14 @@ pub fn find_told(
         IsAttemptIn m cache.new (query_in (program_in regex.now) asked.now) position) }
 {
     regex.program.find_told(asked, position, notes, cache)
+}
+
+/// Leaves what the attempts with a regex in one haystack found out to those in others. No attempt goes on with the notes.
+pub fn leave_notes(regex: &Regex, notes: &mut AttemptNotes)
+    requires steps { is_steps notes.old.kept ≡ true
+        → HoldsSteps (program_in regex.now) notes.old.steps }
+{
+    regex.program.leave_notes(notes);
 }
 
 /// The groups of a match in the haystack that [`find_at`] found, as it left them in `cache`.

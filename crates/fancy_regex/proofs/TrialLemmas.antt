@@ -9,12 +9,12 @@ use Rattle.fancy_code.proofs.MarkingLemmas.{either_side}
 use Rattle.fancy_search.specs.declared.cache.AttemptNotes.{AttemptNotes}
 use Rattle.fancy_search.specs.declared.cache.Kept.TheVariants.{Nothing}
 use Rattle.fancy_code.specs.declared.found.Found.{Found}
-use Rattle.fancy_search.specs.KeptTables.{KeepsNotes, kept_from}
+use Rattle.fancy_search.specs.KeptTables.{HoldsSteps, KeepsNotes, is_steps, kept_from}
 use Rattle.fancy_search.proofs.KeptTablesLemmas.{noted_later}
 use Rattle.fancy_regex.specs.LongestMatches.{EndsBy}
 use Rattle.fancy_regex.specs.SetMembers.{SetQuery}
 use Rattle.fancy_regex.specs.declared.set.trials.Trials.{Trials}
-use Rattle.fancy_regex.specs.Trials.{notes_held, notes_at, NotedAt, AreNoted, AreNotedFrom, AreNotedBelow, IsOldOrNew, OthersStayBut}
+use Rattle.fancy_regex.specs.Trials.{notes_held, notes_at, HoldStepsOf, NotedAt, AreNoted, AreNotedFrom, AreNotedBelow, IsOldOrNew, OthersStayBut}
 
 -- two numbers are the same or not
 pub either_one : (m n : ℕ) → (m ≡ n) ⊎ (m ≡ n → ⊥)
@@ -57,6 +57,32 @@ get_set_same [] i x lt = absurd (omega arith)
 get_set_same (y ∷ ys) zero x lt = refl
 get_set_same (y ∷ ys) (suc i) x lt = get_set_same ys i x (omega arith)
 
+-- what stands in a list stands in a longer one
+pub held_before : (xs : List (Option (Box AttemptNotes))) (x : Option (Box AttemptNotes)) (k : ℕ) (notes : AttemptNotes)
+    → notes_held (slice_get xs k) ≡ Some notes → notes_held (slice_get (xs ++ x ∷ []) k) ≡ Some notes
+held_before [] x k notes is = absurd (none-some notes is)
+held_before (y ∷ ys) x zero notes is = is
+held_before (y ∷ ys) x (suc k) notes is = held_before ys x k notes is
+
+-- the last of a list stands there
+pub held_last : (xs : List (Option (Box AttemptNotes))) (x : Option (Box AttemptNotes)) → slice_get (xs ++ x ∷ []) (length xs) ≡ Some x
+held_last [] x = refl
+held_last (y ∷ ys) x = held_last ys x
+
+-- where members hold steps of their code, so do all but the last
+pub held_fewer : (members : List Regex) (old new : Trials) (x : Option (Box AttemptNotes)) → old.notes.items ≡ new.notes.items ++ x ∷ []
+    → HoldStepsOf members old → HoldStepsOf members new
+held_fewer members old new x is holds k member notes at here =
+    holds k member notes at (ap (λ (l : List (Option (Box AttemptNotes))). notes_held (slice_get l k)) is ∙ held_before new.notes.items x k notes here)
+
+-- and the last
+pub held_of_last : (members : List Regex) (old new : Trials) (x : Option (Box AttemptNotes)) (member : Regex) (notes : Box AttemptNotes)
+    → old.notes.items ≡ new.notes.items ++ x ∷ [] → x ≡ Some notes → slice_get members (length new.notes.items) ≡ Some member
+    → HoldStepsOf members old → is_steps notes.value.kept ≡ true → HoldsSteps (program_in member) notes.value.steps
+held_of_last members old new x member notes is some at holds =
+    holds (length new.notes.items) member notes.value at
+    (ap (λ (l : List (Option (Box AttemptNotes))). notes_held (slice_get l (length new.notes.items))) is ∙ ap notes_held (held_last new.notes.items x ∙ ap Some some))
+
 -- what a member found out stands where it was put
 pub noted_now : (member : Regex) (haystack : List ℕ) (request : Request) (place index : ℕ) (xs : List (Option (Box AttemptNotes))) (x : Box AttemptNotes) → index < length xs
     → KeepsNotes (program_in member) haystack request place x.value
@@ -83,6 +109,10 @@ module _ (q : SetQuery) where
   -- before any member was tried
   pub none_tried : (These : ℕ → Type 0) (place : ℕ) (trials : Trials) → trials.notes.items ≡ [] → AreNoted These q place trials
   none_tried These place trials none k member these is notes at = absurd (none-some notes (sym (ap (λ (l : List (Option (Box AttemptNotes))). notes_held (slice_get l k)) none) ∙ at))
+
+  -- where all are noted, the steps are of the members' code
+  pub holds_noted : (place : ℕ) (trials : Trials) → AreNotedFrom 0 q place trials → HoldStepsOf q.members trials
+  holds_noted place trials noted k member notes is at = (noted k member (omega arith) is notes at).1
 
   -- what is kept for a place is kept for a later one
   pub noted_on : (These : ℕ → Type 0) (place later : ℕ) (trials : Trials) → place ≤ later

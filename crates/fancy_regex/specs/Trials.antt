@@ -1,12 +1,12 @@
 -- What the members of a pattern set found out at the positions before.
 use Rattle.std.specs.Global.{Box}
-use Rattle.std.specs.Prelude.{◌≡◌, ◌≤◌, ◌<◌, ◌+◌, ◌⊎◌, ℕ, List, Option, Some, None, IfSome, slice_get}
+use Rattle.std.specs.Prelude.{◌≡◌, ◌≤◌, ◌<◌, ◌+◌, ◌⊎◌, ℕ, true, List, Option, Some, None, IfSome, slice_get}
 use Rattle.fancy_input.specs.declared.input.Request.{Request}
 use Rattle.fancy_core.specs.declared.regex.Regex.{Regex}
 use Rattle.fancy_core.specs.Regexes.{program_in}
 use Rattle.fancy_search.specs.declared.cache.AttemptNotes.{AttemptNotes}
 use Rattle.fancy_search.specs.declared.cache.Kept.TheVariants.{Nothing}
-use Rattle.fancy_search.specs.KeptTables.{KeepsNotes}
+use Rattle.fancy_search.specs.KeptTables.{HoldsSteps, KeepsNotes, is_steps}
 use Rattle.fancy_regex.specs.SetMembers.{SetQuery}
 use Rattle.fancy_regex.specs.declared.set.trials.Trials.{Trials}
 
@@ -36,6 +36,12 @@ AreNotedFrom from q place trials = AreNoted (λ k. from ≤ k) q place trials
 -- of all members below an index
 abbrev pub AreNotedBelow : ℕ → SetQuery → ℕ → Trials → Type 0
 AreNotedBelow to q place trials = AreNoted (λ k. k < to) q place trials
+
+-- where members kept steps of the automaton, these are of their code
+abbrev pub HoldStepsOf : List Regex → Trials → Type 0
+HoldStepsOf members trials =
+    (k : ℕ) (member : Regex) (notes : AttemptNotes) → slice_get members k ≡ Some member → notes_at trials k ≡ Some notes
+    → is_steps notes.kept ≡ true → HoldsSteps (program_in member) notes.steps
 
 -- the notes of a member are as they were, or there were none, and nothing was found out since
 abbrev pub IsOldOrNew : Option AttemptNotes → Option AttemptNotes → Type 0

@@ -27,7 +27,6 @@ pub use token::Token;
 /// start with the byte at the place are tried, and those alone can refuse. For each token the work begins anew that a
 /// `RegexOptionsBuilder::step_limit` bounds: what all patterns do at its place. A list that has ended stays ended, and
 /// [`Tokens::place`] tells where it ended.
-#[derive(Drop)]
 pub struct Tokens<'r, S: Haystack> {
     set: &'r RegexSet,
     input: RegexInput<S>,
@@ -41,6 +40,23 @@ pub struct Tokens<'r, S: Haystack> {
     ghost known: { AreKnown trials.cache.known (S.bytes (haystack_in input)) },
     ghost noted: { ended ≡ false
         → AreNotedFrom 0 (asked_of_set set.now S.bytes input) place trials } by { Prim.hlevel props },
+}
+
+/// By hand, so that what the patterns found out in the haystack is left to their attempts in others, and crates above do not prove it
+/// once more.
+impl<'r, S: Haystack> Drop for Tokens<'r, S> {
+    fn drop(self) {
+        let Tokens {
+            set,
+            input: _,
+            place: _,
+            ended,
+            mut trials,
+        } = self;
+        if !ended {
+            trials.leave(&set.members);
+        }
+    }
 }
 
 impl RegexSet {
@@ -113,12 +129,15 @@ impl<'r, S: Input> Iterator for Tokens<'r, S> {
     ghost remaining = { λ t. at_most (token_turns t) };
 
     fn next(&mut self) -> Option<Result<Token<'r, S>>> {
-        let request = self.input.request();
-        if self.ended || self.place >= request.range_end {
-            self.ended = true;
+        if self.ended {
             return None;
         }
         let set = self.set;
+        if self.place >= self.input.request().range_end {
+            self.ended = true;
+            self.trials.leave(&set.members);
+            return None;
+        }
         match set.token_at(&self.input, self.place, &mut self.trials) {
             Ok(token) => {
                 self.place = token.end();

@@ -4,7 +4,6 @@ ghost use Rattle.std.specs.Prelude.{◌≡◌, ℕ, List, [], None, Some, option
 ghost use Rattle.fancy_code.specs.declared.code.Code.{Code};
 ghost use Rattle.fancy_input.specs.Work.{steps_of, returns_of, units_of};
 
-use crate::following::SHORT;
 use crate::read_past::ReadPast;
 use fancy_bytes::lacking::KnownBytes;
 use fancy_input::span::Span;
@@ -59,22 +58,15 @@ impl Kept {
         }
     }
 
-    /// Whether a search that takes so many steps at most may be worth the automaton's: it is a search alone, or the first one, and takes
-    /// many, or the automaton is to serve after such a one.
+    /// Whether the automaton may go on with what is kept.
     #[inline(always)]
-    pub(crate) fn is_worth_steps(self, most: usize) -> bool
+    pub(crate) fn may_be_followed(self) -> bool
         ensures { result ≡ true → table_kept self ≡ None }
     {
         match self {
-            Kept::Nothing => most >= SHORT,
-            Kept::Begun(_) | Kept::Steps => true,
+            Kept::Nothing | Kept::Begun(_) | Kept::Steps => true,
             Kept::Runner(_) | Kept::Lines => false,
         }
-    }
-
-    /// Whether nothing is kept.
-    pub(crate) fn is_nothing(self) -> bool {
-        matches!(self, Kept::Nothing)
     }
 
     /// Whether steps are kept.

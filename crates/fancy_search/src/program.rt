@@ -42,7 +42,9 @@ ghost use Rattle.fancy_search.specs.declared.straight.StraightEnd.TheVariants.{L
 use crate::asked::Asked;
 use crate::begun::Begun;
 use crate::cache::{AttemptCache, AttemptNotes, Cache, Engine, Kept, RememberedSteps};
-use crate::following::{LEAST_WORTH, MOST_WORTH, SEARCH, TABLE, WORTH, is_worth_following, leaps};
+use crate::following::{
+    LEAST_WORTH, MOST_WORTH, SEARCH, SHORT, TABLE, WORTH, is_worth_following, leaps,
+};
 use crate::one_item::is_one_item;
 use crate::options::Options;
 use crate::step_pool::StepPool;
@@ -340,7 +342,7 @@ impl Program {
         let mut kept = Kept::Nothing;
         let mut known = KnownBytes::new();
         let found = self.search_next(asked, &mut kept, &mut known, cache, work)?;
-        self.leave(kept, cache);
+        self.leave(kept, &mut cache.steps);
         Ok(found)
     }
 
@@ -778,20 +780,21 @@ impl Program {
         if asked.request.anchored || !self.worth_following {
             return false;
         }
-        let (first, end) = (asked.request.effective_start(), asked.request.range_end);
-        if !kept.is_worth_steps(self.most_steps(first, end)) {
+        if !kept.may_be_followed() {
             return false;
         }
-        if kept.is_nothing() && leaps(&self.code.prefilter, asked.haystack, first, end) {
+        if matches!(kept, Kept::Nothing) && !self.is_worth_beginning(asked) {
             return false;
         }
         self.can_follow(asked.text)
     }
 
-    /// How many steps an easy search takes at most from `first` up to `end`, byte offsets.
+    /// Whether a search alone, or the first of a list, may be worth the automaton's steps: it may take many, and the runner does not leap.
     #[inline(always)]
-    fn most_steps(&self, first: usize, end: usize) -> usize {
-        self.code.len().saturating_mul(end.saturating_sub(first))
+    fn is_worth_beginning(&self, asked: &Asked<'_>) -> bool {
+        let (first, end) = (asked.request.effective_start(), asked.request.range_end);
+        let most_steps = self.code.len().saturating_mul(end.saturating_sub(first));
+        most_steps >= SHORT && !leaps(&self.code.prefilter, asked.haystack, first, end)
     }
 
     /// Whether the limit of steps allows all that an easy search takes at most, besides what was done before.
@@ -822,9 +825,7 @@ impl Program {
         requires kept { is_steps kept ≡ true → HoldsSteps self.now held }
         ensures { IfOk result (λ steps. AreStepsOf self.now.code steps.value) }
     {
-        if kept.is_steps()
-            && let Some(steps) = held
-        {
+        if let (Kept::Steps, Some(steps)) = (kept, held) {
             return Ok(steps);
         }
         let mut steps = match self.pool.take() {
@@ -835,19 +836,26 @@ impl Program {
         Ok(steps)
     }
 
-    /// Leaves what is kept to later searches.
-    pub(crate) fn leave(&self, kept: Kept, cache: &mut Cache)
-        requires kept { is_steps kept ≡ true → HoldsSteps self.now cache.old.steps }
-        ensures others { cache.new ≡ record cache.old { steps = cache.new.steps } }
+    /// Leaves what is kept to later searches, with the steps that are held.
+    pub(crate) fn leave(&self, kept: Kept, held: &mut Option<Box<RememberedSteps>>)
+        requires kept { is_steps kept ≡ true → HoldsSteps self.now held.old }
     {
-        if let Kept::Begun(patience) = kept {
-            self.pool.spend(patience.taken);
+        match kept {
+            Kept::Begun(patience) => self.pool.spend(patience.taken),
+            Kept::Steps => {
+                if let Some(steps) = held.take() {
+                    self.pool.leave(steps);
+                }
+            }
+            _ => {}
         }
-        if kept.is_steps()
-            && let Some(steps) = cache.steps.take()
-        {
-            self.pool.leave(steps);
-        }
+    }
+
+    /// Leaves what the attempts in one haystack found out to those in others. No attempt goes on with the notes.
+    pub fn leave_notes(&self, notes: &mut AttemptNotes)
+        requires kept { is_steps notes.old.kept ≡ true → HoldsSteps self.now notes.old.steps }
+    {
+        self.leave(notes.kept, &mut notes.steps);
     }
 
     /// The search for an easy pattern, by the automaton. No group takes part in what it finds.
@@ -1117,8 +1125,8 @@ impl Program {
         found
     }
 
-    /// Whether the automaton may serve an attempt of a list: where it follows the code, the search may take many steps, and the limit of
-    /// steps allows all. That is so from the first attempt on or never, and no longer once it was not.
+    /// Whether the automaton may serve an attempt of a list: where it follows the code, and the limit of steps allows all. That is so from
+    /// the first attempt on or never, and no longer once it was not.
     fn is_followed_at(
         &self,
         asked: &Asked<'_>,
@@ -1133,12 +1141,10 @@ impl Program {
         ensures places { result ≡ true → KeepsPlaces asked.now.haystack.now self.now.code.meaning
             (search_options self.now.options).on_boundaries }
     {
-        if !self.easy || !self.can_follow(asked.text) {
+        if !self.easy || !kept.may_be_followed() {
             return false;
         }
-        let (first, end) = (from_position.effective_start(), from_position.range_end);
-        kept.is_worth_steps(self.most_steps(first, end))
-            && self.allows_all_steps(from_position, work)
+        self.can_follow(asked.text) && self.allows_all_steps(from_position, work)
     }
 
     /// The attempt at one position for an easy pattern, by the automaton, which goes on with the notes.

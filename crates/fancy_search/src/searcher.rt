@@ -83,7 +83,7 @@ impl<S: Haystack> Searcher<S> {
         requires kept { Keeps S.bytes program.now self.now cache.old }
     {
         if !self.ended {
-            program.leave(self.kept, cache);
+            program.leave(self.kept, &mut cache.steps);
         }
     }
 }
@@ -328,7 +328,7 @@ impl<S: Input> Searcher<S> {
             }
             Ok(None) => {
                 self.ended = true;
-                program.leave(self.kept, cache);
+                program.leave(self.kept, &mut cache.steps);
                 None
             }
             Err(error) => {

@@ -21,7 +21,7 @@ ghost use Rattle.fancy_search.specs.SearchCounts.{IsOutOfSteps};
 
 use fancy_code::found::Found;
 use fancy_core::attempt::{
-    captures_found, find_at, find_hard, find_in_list, find_straight, find_told,
+    captures_found, find_at, find_hard, find_in_list, find_straight, find_told, leave_notes,
 };
 use fancy_core::captures::Captures;
 use fancy_core::regex::Regex;
@@ -51,7 +51,7 @@ impl Trials {
     ghost use Rattle.fancy_input.specs.Work.{IsSpent};
     ghost use Rattle.fancy_regex.specs.SetCounts.{IsPaired, steps_in, steps_left};
     ghost use Rattle.fancy_regex.specs.SetLimits.{KeepsWork};
-    ghost use Rattle.fancy_regex.specs.Trials.{IsOldOrNew, NotedAt, OthersStayBut, notes_at};
+    ghost use Rattle.fancy_regex.specs.Trials.{HoldStepsOf, IsOldOrNew, NotedAt, OthersStayBut, notes_at};
 
     /// No member was tried yet, and no memory is taken.
     pub(crate) fn new(alloc: Global) -> Trials
@@ -83,6 +83,20 @@ impl Trials {
         match self.notes[index].take() {
             Some(notes) => Ok(notes),
             None => Ok(Box::new(alloc, AttemptNotes::new(alloc))?),
+        }
+    }
+
+    /// Leaves what the members found out to their attempts in other haystacks, and keeps nothing of it.
+    pub(crate) fn leave(&mut self, members: &[Regex])
+        requires noted { HoldStepsOf members.now self.old }
+        ensures cache { self.new.cache ≡ self.old.cache }
+    {
+        'members: while let Some(held) = self.notes.pop() {
+            if let Some(mut notes) = held
+                && let Some(member) = members.get(self.notes.len())
+            {
+                leave_notes(member, &mut notes);
+            }
         }
     }
 

@@ -1,7 +1,13 @@
 use Rattle.std.proofs.Common.{refl, arith}
 use Rattle.fancy_regex.specs.Sets.{asked_of_set}
 use Rattle.fancy_regex.proofs.TokenGivenLemmas.{goes_on_with, end_is}
+use Rattle.fancy_regex.proofs.TrialLemmas.{holds_noted}
 use Rattle.fancy_regex.proofs.tokens.TokensIterator.next.Goals as goal
+
+pub leave-requires : goal.leave-requires
+leave-requires g c =
+    let s = c.args.self.now in
+    record { noted = rw c.deref.ensures.value (holds_noted (asked_of_set s.set.now g.S.Haystack.bytes s.input) s.place s.trials (s.noted c.if-self.false)) }
 
 pub token_at-requires-clause-noted : goal.token_at-requires-clause-noted
 token_at-requires-clause-noted g c = c.args.self.now.noted c.if-self.false
