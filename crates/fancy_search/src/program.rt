@@ -178,12 +178,14 @@ fn anchored_at(request: Request, position: usize) -> Request
     }
 }
 
-/// Where what was found ends, or where nothing was found, where the search began.
+/// How far a search came: to the end of its match, or where it found none, to the end of its range, and an anchored one no further than
+/// where it began.
 #[inline(always)]
-fn end_of(found: Option<Found>, first: usize) -> usize {
+fn end_of(found: Option<Found>, request: Request) -> usize {
     match found {
         Some(found) => found.end,
-        None => first,
+        None if request.anchored => request.effective_start(),
+        None => request.range_end,
     }
 }
 
@@ -885,7 +887,6 @@ impl Program {
         ensures units { units_of work.new ≡ units_of work.old }
         ensures refused { IfErr result (λ e. e ≡ Error.Memory) }
     {
-        let first = request.effective_start();
         *kept = Kept::Steps;
         let options = self.options.for_search();
         match automaton::find(
@@ -897,7 +898,7 @@ impl Program {
             work,
         ) {
             Ok(found) => {
-                if !steps.serve_on(end_of(found, first)) {
+                if !steps.serve_on(end_of(found, request)) {
                     *kept = Kept::Runner(None);
                 }
                 Ok(found)
