@@ -222,10 +222,11 @@ pub fn find_told(
     regex.program.find_told(asked, position, notes, cache)
 }
 
-/// Leaves what the attempts with a regex in one haystack found out to those in others. No attempt goes on with the notes.
-pub fn leave_notes(regex: &Regex, notes: &mut AttemptNotes)
-    requires steps { is_steps notes.old.kept ≡ true
-        → HoldsSteps (program_in regex.now) notes.old.steps }
+/// Leaves what the attempts with a regex in one haystack found out to those in others. The notes are given up. No answer depends on
+/// what is left.
+pub fn leave_notes(regex: &Regex, notes: Box<AttemptNotes>)
+    requires steps { is_steps notes.value.kept ≡ true
+        → HoldsSteps (program_in regex.now) notes.value.steps }
 {
     regex.program.leave_notes(notes);
 }

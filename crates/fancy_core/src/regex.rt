@@ -29,8 +29,8 @@ use std::fmt;
 /// that the pattern prefers, or under `RegexOptionsBuilder::leftmost_longest` the longest. Where a `\K` was met on the
 /// way, the match starts at the place of the last one.
 ///
-/// It keeps what an automaton computed for its last search, half a megabyte at most, for the next one. Several threads may search with
-/// it at once, and none waits for another.
+/// It keeps what an automaton computed for its last search, about half a megabyte at most, for the next one. Several threads may search
+/// with it at once, and none waits for another.
 ///
 /// ```text
 /// Regex::new(alloc, "a|ab")?.find("xab")    // Some: 1..2, as the first branch is preferred

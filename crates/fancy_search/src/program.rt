@@ -79,8 +79,8 @@ const SHORT_HAYSTACK: usize = 256;
 /// A pattern that was read and compiled under options.
 ///
 /// Which engine serves its searches is decided once: the memoised runner an easy pattern, and the backtracking machine a
-/// hard one. Where the runner would make many attempts or long ones, it begins a search, and an automaton goes on with it, if that follows the
-/// code. One whose code is straight needs no engine: its items are read where a match may begin, and those of a
+/// hard one. Where the runner would make many attempts or long ones, it begins a search, and an automaton goes on with it, if that
+/// follows the code. One whose code is straight needs no engine: its items are read where a match may begin, and those of a
 /// loop at its end after them.
 pub struct Program {
     options: Options,
@@ -853,10 +853,11 @@ impl Program {
         }
     }
 
-    /// Leaves what the attempts in one haystack found out to those in others. No attempt goes on with the notes.
-    pub fn leave_notes(&self, notes: &mut AttemptNotes)
-        requires kept { is_steps notes.old.kept ≡ true → HoldsSteps self.now notes.old.steps }
+    /// Leaves what the attempts in one haystack found out to those in others. The notes are given up.
+    pub fn leave_notes(&self, notes: Box<AttemptNotes>)
+        requires kept { is_steps notes.value.kept ≡ true → HoldsSteps self.now notes.value.steps }
     {
+        let mut notes = notes;
         self.leave(notes.kept, &mut notes.steps);
     }
 

@@ -92,10 +92,10 @@ impl Trials {
         ensures cache { self.new.cache ≡ self.old.cache }
     {
         'members: while let Some(held) = self.notes.pop() {
-            if let Some(mut notes) = held
+            if let Some(notes) = held
                 && let Some(member) = members.get(self.notes.len())
             {
-                leave_notes(member, &mut notes);
+                leave_notes(member, notes);
             }
         }
     }

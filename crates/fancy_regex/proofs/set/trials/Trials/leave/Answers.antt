@@ -12,9 +12,8 @@ leave_notes-requires c =
     let size : c.len.result ≡ length c.pop.new.self.items = omega (arith, c.len.ensures, c.pop.new.self.ok.0) in
     let there : slice_get c.args.members.now c.len.result ≡ Some member = slice_get-get_or c.args.members.now c.len.result member lookup.3.0 ∙ ap Some (sym lookup.1) in
     record {
-      steps = rw c.deref_mut.ensures.value
-          (held_of_last c.args.members.now c.members.self left c.in-Some.held member c.in-Some-held.notes c.in-Some.ensures.items c.in-Some-held.is
-          (subst (λ (k : ℕ). slice_get c.args.members.now k ≡ Some member) size there) c.members.invariant.holds);
+      steps = held_of_last c.args.members.now c.members.self left c.in-Some.held member c.in-Some-held.notes c.in-Some.ensures.items c.in-Some-held.is
+          (subst (λ (k : ℕ). slice_get c.args.members.now k ≡ Some member) size there) c.members.invariant.holds;
     }
 
 pub members-preserved-in-Some : goal.members-preserved-in-Some
