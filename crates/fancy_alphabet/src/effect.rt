@@ -70,6 +70,7 @@ fn effect_of_instr(code: &Code, instr: &Instr, sight: Sight) -> Effect
             moves_if(holds_between(sight.before, sight.after, *assertion), *next)
         }
         Instr::Split(first, second) => Effect::Splits(*first, *second),
+        Instr::Open(_, next) | Instr::Close(_, next) => Effect::Moves(*next),
         _ => Effect::Fails,
     }
 }

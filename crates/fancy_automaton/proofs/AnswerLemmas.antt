@@ -21,8 +21,8 @@ use Rattle.fancy_code.proofs.PassedLemmas.{openings_passed}
 use Rattle.fancy_code.proofs.PositionLemmas.{first_thread, deep, attempt_known, attempt_answer, search_skip}
 use Rattle.fancy_meaning.proofs.AttemptLemmas.{one_position, search_hit, search_miss, search_over}
 use Rattle.fancy_states.specs.Ways.{tagged}
-use Rattle.fancy_states.specs.Futures.{ArePlain, place_of, end_at, leftmost}
-use Rattle.fancy_states.specs.Search.{Begun, ends_in, ends_of, at_position}
+use Rattle.fancy_states.specs.Futures.{ArePlain, EndsNoGroup, place_of, end_at, leftmost}
+use Rattle.fancy_states.specs.Search.{Begun, IsFoundAs, ends_in, ends_of, at_position}
 use Rattle.fancy_states.proofs.FutureLemmas.{plain_easy}
 use Rattle.fancy_states.proofs.UntouchedLemmas.{IsUntouched, outcome_untouched}
 
@@ -66,23 +66,35 @@ known_some : (o : Option (List Raw)) → IsKnown o → (w : List Raw) × (o ≡ 
 known_some None k = absurd k
 known_some (Some w) k = (w, refl)
 
--- the match that was found, if one was, starts at its position, and no group took part in it
-abbrev pub IsWhole : List (Option Span) → Option Answer → Type 0
-IsWhole groups None = Unit {0}
-IsWhole groups (Some f) = IsUntouched groups f.position f.state
+-- the match that was found, if one was, starts at its position, and where `whole` holds, it has these groups
+abbrev pub IsWhole : Type 0 → List (Option Span) → Option Answer → Type 0
+IsWhole whole groups None = Unit {0}
+IsWhole whole groups (Some f) = IsUntouched whole groups f.position f.state
 
 -- what was found by its two ends
-pub found_by_ends : (groups : List (Option Span)) (span : Option Span) (o : Option Answer) → IsWhole groups o → option_map ends_in span ≡ option_map ends_of o
-    → answer_with groups (option_map at_position span) ≡ o
-found_by_ends groups None None k e = refl
-found_by_ends groups None (Some f) k e = cc
-found_by_ends groups (Some s) None k e = cc
-found_by_ends groups (Some s) (Some f) k e =
+found_by_ends : (whole : Type 0) (groups : List (Option Span)) (span : Option Span) (o : Option Answer) → IsWhole whole groups o
+    → option_map ends_in span ≡ option_map ends_of o → whole → answer_with groups (option_map at_position span) ≡ o
+found_by_ends whole groups None None k e h = refl
+found_by_ends whole groups None (Some f) k e h = cc
+found_by_ends whole groups (Some s) None k e h = cc
+found_by_ends whole groups (Some s) (Some f) k e h =
     let both : (s.start, s.end) ≡ (f.position, f.state.place) = cc in
     let one : s.start ≡ f.position = ap (λ (t : ℕ × ℕ). t.0) both in
     let two : s.end ≡ f.state.place = ap (λ (t : ℕ × ℕ). t.1) both in
     ap₂ (λ (i j : ℕ). Some (record { position = i; state = record { place = j; captures = groups; kept = i } })) one two
-    ∙ ap₂ (λ (k : ℕ) (gs : List (Option Span)). Some (record { position = f.position; state = record { place = f.state.place; captures = gs; kept = k } })) (sym k.start) (sym k.captures)
+    ∙ ap₂ (λ (k : ℕ) (gs : List (Option Span)). Some (record { position = f.position; state = record { place = f.state.place; captures = gs; kept = k } })) (sym k.start) (sym (k.captures h))
+
+-- the same, with the groups of the match
+found_as : (code : Code) (span : Option Span) (o : Option Answer) → IsWhole (EndsNoGroup (instrs_of code)) (replicate code.groups None) o
+    → option_map ends_in span ≡ option_map ends_of o → IsFoundAs code (option_map at_position span) o
+found_as code span None k e = record {
+  same = found_by_ends (Unit {0}) (replicate code.groups None) span None tt e tt;
+  none = λ _. refl;
+}
+found_as code span (Some f) k e = record {
+  same = found_by_ends (Unit {0}) f.state.captures span (Some f) (record { captures = λ _. refl; start = k.start }) e tt;
+  none = k.captures;
+}
 
 module _ (q : Query) (code : Code) (is : IsCodeOf q.sought.pattern code) (groups : q.sought.groups ≡ code.groups) (meant : q.sought.meaning ≡ code.meaning)
     (only : q.sought.not_empty ≡ false) (first : q.sought.longest ≡ false) (inside : q.request.range_end ≤ length q.haystack)
@@ -132,13 +144,17 @@ module _ (q : Query) (code : Code) (is : IsCodeOf q.sought.pattern code) (groups
       let none = openings_passed q code is meant inside bytes 1 0 p (p + 1) (omega arith) (omega (arith, le)) (omega arith) alone in
       end_is p le may ∙ ap (option_map place_of) (none_here p (answer_at q p) refl (sym (one_position q 1 p refl) ∙ none ∙ search_over q 0 (p + 1) refl))
 
-  -- no group takes part in a match, which starts at its position
-  whole_at : (p : ℕ) (s : State) → p ≤ q.request.range_end → Good p ≡ true → answer_at q p ≡ Some s → IsUntouched (replicate code.groups None) p s
+  -- The code ends no group.
+  abbrev Whole : Type 0
+  Whole = EndsNoGroup (instrs_of code)
+
+  -- a match starts at its position, and no group takes part in it where the code ends none
+  whole_at : (p : ℕ) (s : State) → p ≤ q.request.range_end → Good p ≡ true → answer_at q p ≡ Some s → IsUntouched Whole (replicate code.groups None) p s
   whole_at p s le may e =
       let w = known_some (thread_run x q.request.range_end (instrs_of code) Deep p (first_thread code p)) (known p le) in
-      outcome_untouched (replicate code.groups None) p x q.request.range_end (instrs_of code) plain Deep code.start (state_of p (first_thread code p)) s
+      outcome_untouched Whole (replicate code.groups None) p x q.request.range_end (instrs_of code) plain (λ none. none) Deep code.start (state_of p (first_thread code p)) s
       (starts_of (first_thread code p)) w.0 (ends_well Good)
-      (record { captures = map-replicate slot_span code.groups empty_slot; start = refl }) w.1
+      (record { captures = λ _. map-replicate slot_span code.groups empty_slot; start = refl }) w.1
       (sym (ap (λ (o : Option (List Raw)). first_accepted (ends_well Good) (events_of o)) w.1) ∙ answer_is p le may ∙ e)
 
   pub leftmost_is : (n p : ℕ) → p + n ≤ q.request.range_end + 1
@@ -161,22 +177,22 @@ module _ (q : Query) (code : Code) (is : IsCodeOf q.sought.pattern code) (groups
         ∙ next ∙ ap (option_map ends_of) (sym (search_miss q (suc n) n p refl (search_skip q p first e)))
 
   -- each answer of a search is such a match
-  pub whole_is : (n p : ℕ) → p + n ≤ q.request.range_end + 1 → IsWhole (replicate code.groups None) (answer_from q n p)
-  whole_is zero p le = subst (IsWhole (replicate code.groups None)) (sym (search_over q 0 p refl)) tt
+  pub whole_is : (n p : ℕ) → p + n ≤ q.request.range_end + 1 → IsWhole Whole (replicate code.groups None) (answer_from q n p)
+  whole_is zero p le = subst (IsWhole Whole (replicate code.groups None)) (sym (search_over q 0 p refl)) tt
   whole_is (suc n) p le = by (whole_is n (p + 1) (omega (arith, le))) (Good p) refl (answer_at q p) refl where
-    rest : IsWhole (replicate code.groups None) (answer_from q n (p + 1)) → answer_at q p ≡ None → IsWhole (replicate code.groups None) (answer_from q (suc n) p)
-    rest next e = subst (IsWhole (replicate code.groups None)) (sym (search_miss q (suc n) n p refl e)) next
+    rest : IsWhole Whole (replicate code.groups None) (answer_from q n (p + 1)) → answer_at q p ≡ None → IsWhole Whole (replicate code.groups None) (answer_from q (suc n) p)
+    rest next e = subst (IsWhole Whole (replicate code.groups None)) (sym (search_miss q (suc n) n p refl e)) next
 
-    by : IsWhole (replicate code.groups None) (answer_from q n (p + 1)) → (b : Bool) → Good p ≡ b → (o : Option State) → answer_at q p ≡ o
-        → IsWhole (replicate code.groups None) (answer_from q (suc n) p)
+    by : IsWhole Whole (replicate code.groups None) (answer_from q n (p + 1)) → (b : Bool) → Good p ≡ b → (o : Option State) → answer_at q p ≡ o
+        → IsWhole Whole (replicate code.groups None) (answer_from q (suc n) p)
     by next true may None e = rest next e
-    by next true may (Some s) e = subst (IsWhole (replicate code.groups None)) (sym (search_hit q (suc n) n p refl s e)) (whole_at p s (omega (arith, le)) may e)
+    by next true may (Some s) e = subst (IsWhole Whole (replicate code.groups None)) (sym (search_hit q (suc n) n p refl s e)) (whole_at p s (omega (arith, le)) may e)
     by next false may o e = rest next (search_skip q p first may)
 
   -- what was found by its ends, which are those of the leftmost match, is the answer of the search
   pub answered : (n p : ℕ) → p + n ≤ q.request.range_end + 1 → answer_from q n p ≡ search q → (found : Option Span)
       → option_map ends_in found ≡ leftmost Good x q.request.range_end (instrs_of code) Deep code.start n p
-      → answer_with (replicate code.groups None) (option_map at_position found) ≡ search q
+      → IsFoundAs code (option_map at_position found) (search q)
   answered n p le all found ends =
-      found_by_ends (replicate code.groups None) found (search q) (subst (IsWhole (replicate code.groups None)) all (whole_is n p le))
+      found_as code found (search q) (subst (IsWhole Whole (replicate code.groups None)) all (whole_is n p le))
       (ends ∙ leftmost_is n p le ∙ ap (option_map ends_of) all)

@@ -1,18 +1,18 @@
-//! Searches by the automaton: the match that the runner finds, for code without groups.
+//! Searches by the automaton: the match that the runner finds, without its groups.
 
-ghost use Rattle.std.specs.Prelude.{◌≡◌, ◌+◌, ◌-◌, ◌*◌, ◌≤◌, ℕ, Bool, None, if◌then◌else◌, true, IfOk, IfErr, IfSome, length, option_map, replicate};
+ghost use Rattle.std.specs.Prelude.{◌≡◌, ◌+◌, ◌-◌, ◌*◌, ◌≤◌, ℕ, Bool, None, if◌then◌else◌, true, IfOk, IfErr, IfSome, length, option_map};
 ghost use Rattle.fancy_tree.specs.Pattern.{Pattern};
 ghost use Rattle.fancy_input.specs.Requests.{effective_start};
 ghost use Rattle.fancy_code.specs.Code.{instrs_of};
 ghost use Rattle.fancy_code.specs.CodeLength.{code_len};
 ghost use Rattle.fancy_code.specs.Compile.{IsCodeOf};
-ghost use Rattle.fancy_code.specs.Queries.{query_of, unfiltered, answer_with, most_steps};
+ghost use Rattle.fancy_code.specs.Queries.{query_of, unfiltered, most_steps};
 ghost use Rattle.fancy_meaning.specs.Search.{search};
 ghost use Rattle.fancy_prefilter.specs.Seen.{NoneMayStart};
 ghost use Rattle.fancy_input.specs.Work.{steps_of, returns_of, units_of};
 ghost use Rattle.fancy_states.specs.Cells.{IsFor, IsBounded, HoldsFor};
 ghost use Rattle.fancy_states.specs.Futures.{ArePlain};
-ghost use Rattle.fancy_states.specs.Search.{BegunIn, KeepsPlaces, at_position, ends_in, leftmost_in, IsFollowed};
+ghost use Rattle.fancy_states.specs.Search.{BegunIn, IsFoundAs, KeepsPlaces, at_position, ends_in, leftmost_in, IsFollowed};
 ghost use Rattle.fancy_states.specs.Counts.{AddsSteps};
 ghost use Rattle.fancy_automaton.specs.Sole.{IsSole};
 
@@ -137,8 +137,8 @@ fn span_in(
     }
 }
 
-/// Searches a haystack for the pattern of plain code: the match that the runner's search finds, in byte offsets. No group takes
-/// part in it, since plain code begins none. It reads from boundary to boundary (`KeepsPlaces`).
+/// Searches a haystack for the pattern of plain code: the match that the runner's search finds, in byte offsets, without its groups. It
+/// reads from boundary to boundary (`KeepsPlaces`).
 ///
 /// Steps are remembered in `cells`, which begins empty and serves any number of searches for one code. It is cleared where
 /// it is full, as often as that is; no answer changes by that. The limit of steps is not heeded: the caller sees that it allows
@@ -164,8 +164,8 @@ pub fn find(
     requires kept { IsBounded cells.old }
     requires all { IsFor cells.old code.now }
     ensures answer { IfOk result (λ found. (p : Pattern) (on : Bool) → IsCodeOf p code.now
-        → answer_with (replicate code.now.groups None) found
-        ≡ search (query_of p code.now (unfiltered options) haystack.now request on)) }
+        → IsFoundAs code.now found
+        (search (query_of p code.now (unfiltered options) haystack.now request on))) }
     ensures kept { IsBounded cells.new }
     ensures all { IsFor cells.new code.now }
     ensures steps { steps_of work.old ≤ steps_of work.new }
@@ -210,8 +210,8 @@ pub fn find_told(
     requires reads { KeepsPlaces haystack.now code.now.meaning options.on_boundaries }
     requires kept { HoldsFor cells.now code.now }
     ensures { IfSome result (λ found. (p : Pattern) (on : Bool) → IsCodeOf p code.now
-        → answer_with (replicate code.now.groups None) found
-        ≡ search (query_of p code.now (unfiltered options) haystack.now request on)) }
+        → IsFoundAs code.now found
+        (search (query_of p code.now (unfiltered options) haystack.now request on))) }
 {
     let first = request.effective_start();
     if first > request.range_end {

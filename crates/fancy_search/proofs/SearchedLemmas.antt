@@ -1,5 +1,5 @@
 -- What the runner answers is the answer of the search that a program asks for.
-use Rattle.std.proofs.Common.{Result, IfOk, IfErr, ◌≡◌, ◌≤◌, ◌<◌, ◌+◌, ◌∙◌, ◌&&◌, ◌++◌, [], zero, suc, not, if◌then◌else◌, is_some, ap, ap₂, true≢false, ℕ, Bool, false, List, Option, Some, None, IfSome, refl, sym, subst, slice_index, true}
+use Rattle.std.proofs.Common.{Result, IfOk, IfErr, ◌≡◌, ◌≤◌, ◌<◌, ◌+◌, ◌∙◌, ◌&&◌, ◌++◌, [], zero, suc, not, if◌then◌else◌, is_some, ap, ap₂, true≢false, ℕ, Bool, false, List, Option, Some, None, IfSome, refl, sym, subst, slice_index, replicate, true}
 use Rattle.std.specs.Prelude.{option_map}
 use Rattle.std.proofs.Math.Logic.{∥∥₁_elim}
 use Rattle.std.proofs.Props.{props}
@@ -26,6 +26,10 @@ use Rattle.fancy_search.proofs.ResultLemmas.{if_ok, if_err}
 use Rattle.fancy_search.specs.SearchCounts.{TriesNothing, RefusesEasy, lacks_required, is_hopeless, tried_by, returns_taken}
 use Rattle.fancy_meaning.specs.Search.{Query, Answer, search, span_of, attempt, answer_at, is_match_boundary, gone_through, gone_from, returns}
 use Rattle.fancy_code.specs.Queries.{answer_with}
+use Rattle.fancy_code.specs.Code.{instrs_of}
+use Rattle.fancy_code.specs.declared.code.Code.{Code}
+use Rattle.fancy_states.specs.Futures.{EndsNoGroup}
+use Rattle.fancy_states.specs.Search.{IsFoundAs}
 use Rattle.fancy_code.specs.declared.found.Found.{Found}
 use Rattle.fancy_search.specs.declared.asked.Asked.{Asked}
 use Rattle.fancy_search.specs.Served.{StandsIn, IsPosition, KeepsCounts, ServesAlone}
@@ -43,6 +47,9 @@ use Rattle.fancy_meaning.proofs.FoundLemmas.{answer_within, attempt_within}
 -- an equation of answers has at most one proof, so that it may rest on a fact of which only the existence is known
 pub known : {P : Type 0} (a b : Option Answer) → ∥ P ∥₁ → (P → a ≡ b) → a ≡ b
 known a b t f = ∥∥₁_elim t (hlevel props) f
+
+pub known_groups : {P : Type 0} (a b : List (Option Span)) → ∥ P ∥₁ → (P → a ≡ b) → a ≡ b
+known_groups a b t f = ∥∥₁_elim t (hlevel props) f
 
 -- what answers a search, or an attempt at a position, stands within what was asked
 module _ (r : Program) (asked : Asked) (groups : List (Option Span)) where
@@ -139,6 +146,11 @@ attempted r asked p easy tries =
 pub found_by : (q : Query) (groups : List (Option Span)) (m : Option Found) → answer_with groups m ≡ search q → IsFoundBy m q
 found_by q groups None e = ap (option_map span_of) e
 found_by q groups (Some f) e = ap (option_map span_of) e
+
+-- where the code ends no group none takes part in what was found
+pub found_ungrouped : (code : Code) (m : Option Found) (o : Option Answer) → EndsNoGroup (instrs_of code) → IsFoundAs code m o
+    → answer_with (replicate code.groups None) m ≡ o
+found_ungrouped code m o none is = subst (λ (groups : List (Option Span)). answer_with groups m ≡ o) (is.none none) is.same
 
 -- what serves a search for an easy pattern that is not hopeless serves one whose groups are not asked, whatever groups go with what it found
 pub served_some : (r : Program) (asked : Asked) → program_is_easy r ≡ true → is_hopeless r (query_in r asked) ≡ false

@@ -25,7 +25,7 @@ pub enum Engine {
     Runner,
     /// The backtracking machine, which serves the others.
     Machine,
-    /// The automaton, or the reading of straight code, which serve easy patterns whose code has no group. A pattern may have groups
+    /// The automaton, or the reading of straight code, where the code of an easy pattern ends no group. A pattern may have groups
     /// still, so many with the whole match, none of which takes part in a match.
     WithoutGroups(usize),
 }

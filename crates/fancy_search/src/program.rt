@@ -20,8 +20,8 @@ ghost use Rattle.fancy_input.specs.Work.{steps_of, returns_of, units_of};
 ghost use Rattle.fancy_meaning.specs.Tried.{NoneTried};
 ghost use Rattle.fancy_meaning.specs.Search.{search};
 ghost use Rattle.fancy_code.specs.Queries.{answer_with};
-ghost use Rattle.fancy_states.specs.Futures.{ArePlain};
-ghost use Rattle.fancy_states.specs.Search.{KeepsPlaces};
+ghost use Rattle.fancy_states.specs.Futures.{ArePlain, EndsNoGroup};
+ghost use Rattle.fancy_states.specs.Search.{IsFoundAs, KeepsPlaces};
 ghost use Rattle.fancy_states.specs.Counts.{AddsSteps};
 ghost use Rattle.fancy_bytes.specs.Lacks.{AreKnown, AreRequired};
 ghost use Rattle.fancy_splits.specs.Told.{ArePrices};
@@ -66,7 +66,7 @@ use fancy_runner::notes::KeptTable;
 use fancy_runner::patience::Patience;
 use fancy_runner::search as runner;
 use fancy_splits::prices::Prices;
-use fancy_states::plain::is_plain;
+use fancy_states::plain::{ends_no_group, is_plain};
 use fancy_syntax::parse::{Parsed, parse_with};
 use fancy_tree::error::{CompileError, Error, Result, RuntimeError};
 use fancy_tree::name::Names;
@@ -96,6 +96,8 @@ pub struct Program {
     straight: Option<StraightEnd>,
     /// Whether the automaton follows the code.
     plain: bool,
+    /// Whether the code ends no group, so that none takes part in a match.
+    ungrouped: bool,
     /// Whether searches are worth its steps.
     worth_following: bool,
     /// The bytes that every haystack with a match has.
@@ -113,6 +115,7 @@ pub struct Program {
     ghost short: { code_len code ≤ 4 * nodes reading.0 + 2 },
     ghost decided: { easy ≡ is_easy_under options reading.0 },
     ghost followed: { plain ≡ true → FollowsEach code },
+    ghost alone: { ungrouped ≡ true → EndsNoGroup (instrs_of code) },
     ghost single: { one_item ≡ true → ∥ AreOneItems (instrs_of code) code.start ∥₁ },
     ghost direct: { ForSome straight
         (λ end. straight_end code.start (code_len code - 2) (instrs_of code) ≡ Some end) },
@@ -137,6 +140,7 @@ impl Drop for Program {
             one_item: _,
             straight: _,
             plain: _,
+            ungrouped: _,
             worth_following: _,
             required: _,
             prices: _,
@@ -226,6 +230,7 @@ impl Program {
         let one_item = is_one_item(&code);
         let straight = straight_end(&code);
         let plain = is_plain(&code);
+        let ungrouped = ends_no_group(&code);
         let worth_following = is_worth_following(&code);
         let required = RequiredBytes::new(alloc, &tree, options.meaning())?;
         let prices = prices_of(alloc, &code, easy)?;
@@ -242,6 +247,7 @@ impl Program {
             one_item,
             straight,
             plain,
+            ungrouped,
             worth_following,
             required,
             prices,
@@ -403,8 +409,8 @@ impl Program {
         requires unanchored { request.anchored ≡ false }
         requires room { HasRoomFor self.now request work.old }
         requires allowed { AllowsAllSteps self.now request work.old }
-        ensures answer { IfOk result (λ m. (groups : List (Option Span)) × ((on : Bool)
-            → answer_with groups m ≡ search (asked_of self.now haystack.now request on))) }
+        ensures answer { IfOk result (λ m. (on : Bool) → (groups : List (Option Span))
+            × (answer_with groups m ≡ search (asked_of self.now haystack.now request on))) }
         ensures counts { KeepsCounts self.now result work.old work.new }
         ensures idle { (on : Bool) → NoneTried (program_options self.now).seek
             (asked_of self.now haystack.now request on) → steps_of work.new ≡ steps_of work.old }
@@ -523,7 +529,10 @@ impl Program {
         ensures unlimited { kept.old ≡ Kept.Nothing
             → AllowsAllSteps self.now asked.now.request.now work.old → IsOutOfSteps result → ⊥ }
     {
-        if self.is_followed(asked, kept) && self.allows_all_steps(*asked.request, work) {
+        if self.ungrouped
+            && self.is_followed(asked, kept)
+            && self.allows_all_steps(*asked.request, work)
+        {
             if kept.is_steps()
                 && let Some(steps) = &mut cache.steps
             {
@@ -563,6 +572,7 @@ impl Program {
         work: &mut Work,
     ) -> Result<Option<Found>>
         requires followable { IsFollowable self.now haystack.now request }
+        requires whole { EndsNoGroup (instrs_of self.now.code) }
         requires unanchored { request.anchored ≡ false }
         requires room { HasRoomFor self.now request work.old }
         requires allowed { AllowsAllSteps self.now request work.old }
@@ -861,7 +871,7 @@ impl Program {
         self.leave(notes.kept, &mut notes.steps);
     }
 
-    /// The search for an easy pattern, by the automaton. No group takes part in what it finds.
+    /// The search for an easy pattern, by the automaton: what it finds, without its groups.
     #[inline(always)]
     fn follow(
         &self,
@@ -876,8 +886,7 @@ impl Program {
         requires allowed { AllowsAllSteps self.now request work.old }
         requires kept { AreStepsOf self.now.code steps.old }
         ensures answer { IfOk result (λ m. (on : Bool)
-            → answer_with (replicate (program_groups self.now) None) m
-            ≡ search (asked_of self.now haystack.now request on)) }
+            → IsFoundAs self.now.code m (search (asked_of self.now haystack.now request on))) }
         ensures counts { KeepsCounts self.now result work.old work.new }
         ensures idle { (on : Bool) → NoneTried (program_options self.now).seek
             (asked_of self.now haystack.now request on) → steps_of work.new ≡ steps_of work.old }
@@ -1140,10 +1149,11 @@ impl Program {
         ensures allowed { result ≡ true → AllowsAllSteps self.now from_position work.now }
         ensures easy { result ≡ true → program_is_easy self.now ≡ true }
         ensures plain { result ≡ true → ArePlain (instrs_of self.now.code) }
+        ensures whole { result ≡ true → EndsNoGroup (instrs_of self.now.code) }
         ensures places { result ≡ true → KeepsPlaces asked.now.haystack.now self.now.code.meaning
             (search_options self.now.options).on_boundaries }
     {
-        if !self.easy || !kept.may_be_followed() {
+        if !self.easy || !self.ungrouped || !kept.may_be_followed() {
             return false;
         }
         self.can_follow(asked.text) && self.allows_all_steps(from_position, work)
@@ -1161,6 +1171,7 @@ impl Program {
         requires tries { IsPosition asked.now.request.now position }
         requires easy { program_is_easy self.now ≡ true }
         requires plain { ArePlain (instrs_of self.now.code) }
+        requires whole { EndsNoGroup (instrs_of self.now.code) }
         requires places { KeepsPlaces asked.now.haystack.now self.now.code.meaning
             (search_options self.now.options).on_boundaries }
         requires room { HasRoomFor self.now
@@ -1222,14 +1233,15 @@ impl Program {
         Some(self.match_to(asked.haystack, request.range_end, position, past))
     }
 
-    /// Whether the automaton follows the code in what is asked, and no limit of steps is to be heeded.
+    /// Whether the automaton follows the code in what is asked, no group is to be given, and no limit of steps to be heeded.
     fn follows_freely(&self, asked: &Asked<'_>) -> bool
         ensures easy { result ≡ true → program_is_easy self.now ≡ true }
         ensures plain { result ≡ true → ArePlain (instrs_of self.now.code) }
+        ensures whole { result ≡ true → EndsNoGroup (instrs_of self.now.code) }
         ensures places { result ≡ true → KeepsPlaces asked.now.haystack.now self.now.code.meaning
             (search_options self.now.options).on_boundaries }
     {
-        if !self.easy || self.options.step_limit.is_some() {
+        if !self.easy || !self.ungrouped || self.options.step_limit.is_some() {
             return false;
         }
         self.can_follow(asked.text)
@@ -1243,6 +1255,7 @@ impl Program {
         steps: &RememberedSteps,
     ) -> Option<Option<Found>>
         requires followable { IsFollowable self.now haystack.now request }
+        requires whole { EndsNoGroup (instrs_of self.now.code) }
         requires anchored { request.anchored ≡ true }
         requires kept { AreStepsOf self.now.code steps.now }
         ensures { IfSome result (λ m. (on : Bool)

@@ -167,8 +167,8 @@ module _ (good : ℕ → Bool) (x : Context) (limit : ℕ) (code : List Instruct
       subst (λ (b : Bool). Keeps s.unit (moves_if b n) q) (sym (holds_seen x limit here s seen a (subst IsPlainInstr e (plain q))))
       (moves s.unit q n (holds x a here) k (acted q (Assert a n) k e))
   obeys plain s seen q (Split a b) e k = parts q a b k (acted q (Split a b) k e)
-  obeys plain s seen q (Open g n) e k = absurd (subst IsPlainInstr e (plain q))
-  obeys plain s seen q (Close g n) e k = absurd (subst IsPlainInstr e (plain q))
+  obeys plain s seen q (Open g n) e k = passes q n here k (acted q (Open g n) k e)
+  obeys plain s seen q (Close g n) e k = passes q n here k (acted q (Close g n) k e)
   obeys plain s seen q (Enter body) e k = absurd (subst IsPlainInstr e (plain q))
   obeys plain s seen q (Commit n) e k = absurd (subst IsPlainInstr e (plain q))
   obeys plain s seen q (Look behind body n) e k = absurd (subst IsPlainInstr e (plain q))
@@ -193,8 +193,8 @@ easy_of (Member edges n) p = tt
 easy_of (RawByte byte n) p = tt
 easy_of (Assert a n) p = tt
 easy_of (Split a b) p = tt
-easy_of (Open g n) p = absurd p
-easy_of (Close g n) p = absurd p
+easy_of (Open g n) p = tt
+easy_of (Close g n) p = tt
 easy_of (Enter body) p = absurd p
 easy_of (Commit n) p = absurd p
 easy_of (Look behind body n) p = absurd p

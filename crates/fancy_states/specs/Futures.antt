@@ -8,7 +8,7 @@ use Rattle.fancy_code.specs.Thread.{first_accepted, ends_well, events_of, pair_r
 use Rattle.fancy_alphabet.specs.Sides.{is_told_between}
 use Rattle.fancy_states.specs.Ways.{tagged}
 
--- an easy instruction that reads no single byte, begins and ends no group, and does not test whether only empty lines follow
+-- an easy instruction that reads no single byte, and does not test whether only empty lines follow
 abbrev pub IsPlainInstr : Instruction → Type 0
 IsPlainInstr Match = Unit {0}
 IsPlainInstr Fail = Unit {0}
@@ -17,8 +17,8 @@ IsPlainInstr (Member edges next) = Unit {0}
 IsPlainInstr (RawByte byte next) = ⊥
 IsPlainInstr (Assert a next) = is_told_between a ≡ true
 IsPlainInstr (Split a b) = Unit {0}
-IsPlainInstr (Open group next) = ⊥
-IsPlainInstr (Close group next) = ⊥
+IsPlainInstr (Open group next) = Unit {0}
+IsPlainInstr (Close group next) = Unit {0}
 IsPlainInstr (Enter body) = ⊥
 IsPlainInstr (Commit next) = ⊥
 IsPlainInstr (Look behind body next) = ⊥
@@ -39,8 +39,8 @@ is_plain_instr (Member edges next) = true
 is_plain_instr (RawByte byte next) = false
 is_plain_instr (Assert a next) = is_told_between a
 is_plain_instr (Split a b) = true
-is_plain_instr (Open group next) = false
-is_plain_instr (Close group next) = false
+is_plain_instr (Open group next) = true
+is_plain_instr (Close group next) = true
 is_plain_instr (Enter body) = false
 is_plain_instr (Commit next) = false
 is_plain_instr (Look behind body next) = false
@@ -55,6 +55,10 @@ is_plain_instr (Taken number next) = false
 -- each instruction of the code is such
 abbrev pub ArePlain : List Instruction → Type 0
 ArePlain code = (q : ℕ) → IsPlainInstr (instr_at code q)
+
+-- no instruction of the code ends a group
+abbrev pub EndsNoGroup : List Instruction → Type 0
+EndsNoGroup code = (q group next : ℕ) → instr_at code q ≡ Close group next → ⊥
 
 abbrev pub place_of : State → ℕ
 place_of s = s.place

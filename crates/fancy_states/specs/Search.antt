@@ -1,5 +1,5 @@
 -- A search by all ways at once.
-use Rattle.std.specs.Prelude.{◌≡◌, ℕ, ◌+◌, ◌-◌, ◌≤◌, ◌<◌, ◌⊎◌, Bool, true, false, List, [], ◌∷◌, ◌++◌, Option, None, Some, length, IsUtf8}
+use Rattle.std.specs.Prelude.{◌≡◌, ℕ, ◌+◌, ◌-◌, ◌≤◌, ◌<◌, ◌⊎◌, Bool, true, false, List, [], ◌∷◌, ◌++◌, Option, None, Some, length, replicate, IsUtf8}
 use Rattle.std.specs.Option.{option_or}
 use Rattle.fancy_tree.specs.declared.tree.Meaning.{Meaning}
 use Rattle.fancy_input.specs.declared.span.Span.{Span}
@@ -7,12 +7,15 @@ use Rattle.fancy_code.specs.Instructions.{Instruction}
 use Rattle.fancy_meaning.specs.Context.{Context, Unit_at, unit_in}
 use Rattle.fancy_meaning.specs.Placed.{reads_characters}
 use Rattle.fancy_code.specs.declared.found.Found.{Found}
+use Rattle.fancy_code.specs.Code.{instrs_of}
+use Rattle.fancy_code.specs.Queries.{answer_with}
+use Rattle.fancy_code.specs.declared.code.Code.{Code}
 use Rattle.fancy_code.specs.declared.attempt.Attempt.{Attempt}
 use Rattle.fancy_code.specs.Attempt.{context_in, instrs_in, may_end_in}
 use Rattle.fancy_meaning.specs.Search.{Answer}
 use Rattle.fancy_prefilter.specs.NextOpening.{StartsNot}
 use Rattle.fancy_states.specs.Ways.{AllKnown}
-use Rattle.fancy_states.specs.Futures.{ArePlain, end_at, known_at, leftmost}
+use Rattle.fancy_states.specs.Futures.{ArePlain, EndsNoGroup, end_at, known_at, leftmost}
 use Rattle.fancy_states.specs.Steps.{waiting, first_tagged_end}
 
 module _ (good : ℕ → Bool) (x : Context) (limit : ℕ) (code : List Instruction) (deep start : ℕ) where
@@ -87,6 +90,16 @@ pub data KeepsPlaces (haystack : List ℕ) (meaning : Meaning) (on_boundaries : 
 -- at which position an answer was found, and where it ends
 abbrev pub ends_of : Answer → ℕ × ℕ
 ends_of f = (f.position, f.state.place)
+
+-- the n groups of an answer; without one none takes part
+abbrev pub groups_of : ℕ → Option Answer → List (Option Span)
+groups_of n None = replicate n None
+groups_of n (Some f) = f.state.captures
+
+-- What was found, with the groups of the answer, is the answer. No group takes part where the code ends none.
+pub record IsFoundAs (code : Code) (found : Option Found) (answer : Option Answer) : Type 0 where
+  pub same : answer_with (groups_of code.groups answer) found ≡ answer
+  pub none : EndsNoGroup (instrs_of code) → groups_of code.groups answer ≡ replicate code.groups None
 
 -- a match that starts at its position
 abbrev pub at_position : Span → Found

@@ -1,8 +1,9 @@
 use Rattle.std.proofs.Common.{◌≡◌, ℕ, ◌+◌, ◌-◌, ◌<◌, ◌≤◌, ◌∙◌, Bool, true, false, List, Option, Some, None, sym, ap, ap₂, subst, arith, refl, replicate}
-use Rattle.fancy_input.specs.declared.span.Span.{Span}
+use Rattle.fancy_code.specs.declared.found.Found.{Found}
+use Rattle.fancy_states.specs.Search.{IsFoundAs, groups_of}
 use Rattle.std.specs.Prelude.{min, if◌then◌else◌}
 use Rattle.fancy_input.specs.Requests.{positions}
-use Rattle.fancy_code.specs.Queries.{query_of, unfiltered, answer_with}
+use Rattle.fancy_code.specs.Queries.{query_of, unfiltered}
 use Rattle.fancy_meaning.specs.Reading.{search_context}
 use Rattle.fancy_meaning.specs.Search.{answer_from, search}
 use Rattle.fancy_prefilter.specs.Seen.{NoneMayStart}
@@ -25,8 +26,9 @@ tried_within false first end le = omega (arith, le)
 
 pub returns-then-first-request-clause-answer : goal.returns-then-first-request-clause-answer
 returns-then-first-request-clause-answer c p on is =
-    sym (search_over (query_of p c.args.code.now (unfiltered c.args.options) c.args.haystack.now c.args.request on) _ _
-    (positions_none c.args.request (omega (arith, c.effective_start-first.ensures))))
+    let over = search_over (query_of p c.args.code.now (unfiltered c.args.options) c.args.haystack.now c.args.request on) _ _
+    (positions_none c.args.request (omega (arith, c.effective_start-first.ensures))) in
+    record { same = sym over; none = λ _. ap (groups_of c.args.code.now.groups) over }
 
 pub span_in-requires-clause-followed : goal.span_in-requires-clause-followed
 span_in-requires-clause-followed c =
@@ -48,13 +50,12 @@ returns-clause-answer c p on is =
     ap (λ (k : ℕ). if anchored then (min 1 (c.args.request.range_end + 1 - k)) else (c.args.request.range_end + 1 - k)) (sym c.effective_start-first.ensures)
     ∙ tried_in anchored left (omega arith) in
     let all : answer_from q n first ≡ search q = ap₂ (answer_from q) (sym tried) c.effective_start-first.ensures in
-    let groups : List (Option Span) = replicate c.args.code.now.groups None in
-    ap (answer_with groups) c.found_by.ensures
-    ∙ answered q c.args.code.now is refl refl refl refl c.requires.inside x (Some first) same plain n first within all c.in_ok-found.found
+    subst (λ (m : Option Found). IsFoundAs c.args.code.now m (search q)) (sym c.found_by.ensures)
+    (answered q c.args.code.now is refl refl refl refl c.requires.inside x (Some first) same plain n first within all c.in_ok-found.found
     (c.in_ok-found.ensures.answer (Deep q c.args.code.now is refl refl refl refl c.requires.inside x (Some first) same plain) (record {
       known = begun q c.args.code.now is refl refl refl refl c.requires.inside x (Some first) same plain;
       starts = starts_none q c.args.code.now is refl refl refl refl c.requires.inside x (Some first) same plain (λ k. omega (arith, c.type_inv.haystack k));
-    }))
+    })))
 
 pub returns-clause-idle : goal.returns-clause-idle
 returns-clause-idle c none =

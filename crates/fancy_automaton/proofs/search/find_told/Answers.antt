@@ -1,8 +1,9 @@
-use Rattle.std.proofs.Common.{◌≡◌, ℕ, ◌+◌, ◌-◌, ◌<◌, ◌≤◌, ◌∙◌, Bool, true, false, List, Option, Some, None, sym, ap, ap₂, arith, refl, replicate}
-use Rattle.fancy_input.specs.declared.span.Span.{Span}
+use Rattle.std.proofs.Common.{◌≡◌, ℕ, ◌+◌, ◌-◌, ◌<◌, ◌≤◌, ◌∙◌, Bool, true, false, List, Option, Some, None, sym, ap, ap₂, subst, arith, refl}
+use Rattle.fancy_code.specs.declared.found.Found.{Found}
+use Rattle.fancy_states.specs.Search.{IsFoundAs}
 use Rattle.std.specs.Prelude.{min, if◌then◌else◌}
 use Rattle.fancy_input.specs.Requests.{positions}
-use Rattle.fancy_code.specs.Queries.{query_of, unfiltered, answer_with}
+use Rattle.fancy_code.specs.Queries.{query_of, unfiltered}
 use Rattle.fancy_meaning.specs.Reading.{search_context}
 use Rattle.fancy_meaning.specs.Search.{answer_from, search}
 use Rattle.fancy_meaning.specs.declared.reading.SuppressedEnds.{SuppressedEnds}
@@ -34,10 +35,9 @@ returns c p on is =
     ap (λ (k : ℕ). if c.args.request.anchored then (min 1 (c.args.request.range_end + 1 - k)) else (c.args.request.range_end + 1 - k)) (sym c.effective_start-first.ensures)
     ∙ one_tried c.args.request.anchored left c.requires.anchored (omega arith) in
     let all : answer_from q 1 first ≡ search q = ap₂ (answer_from q) (sym tried) c.effective_start-first.ensures in
-    let groups : List (Option Span) = replicate c.args.code.now.groups None in
-    ap (answer_with groups) c.found_by.ensures
-    ∙ answered q c.args.code.now is refl refl refl refl c.requires.inside x (Some first) same plain 1 first within all c.in_ok-found.found
+    subst (λ (m : Option Found). IsFoundAs c.args.code.now m (search q)) (sym c.found_by.ensures)
+    (answered q c.args.code.now is refl refl refl refl c.requires.inside x (Some first) same plain 1 first within all c.in_ok-found.found
     (c.in_ok-found.ensures (Deep q c.args.code.now is refl refl refl refl c.requires.inside x (Some first) same plain) (record {
       known = begun q c.args.code.now is refl refl refl refl c.requires.inside x (Some first) same plain;
       starts = starts_none q c.args.code.now is refl refl refl refl c.requires.inside x (Some first) same plain (λ k. omega (arith, c.type_inv.haystack k));
-    }))
+    })))

@@ -19,7 +19,7 @@ find_followed-requires-clause-followable c = record {
 pub returns-then-allows_all_steps-clause-served : goal.returns-then-allows_all_steps-clause-served
 returns-then-allows_all_steps-clause-served c =
     served_some c.args.self.now c.args.asked.now c.requires.easy c.requires.hopeful c.find_followed.result _ _
-    (if_ok _ _ (λ m is. (is.0, is.1 c.args.asked.now.continues)) c.find_followed.result c.find_followed.ensures.answer)
+    (if_ok _ _ (λ m is. is c.args.asked.now.continues) c.find_followed.result c.find_followed.ensures.answer)
     c.find_followed.ensures.counts (c.find_followed.ensures.idle c.args.asked.now.continues)
     (if_err _ (RefusesEasy c.args.self.now) (λ e memory. rw memory tt) c.find_followed.result c.find_followed.ensures.refused)
 

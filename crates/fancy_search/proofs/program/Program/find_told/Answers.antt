@@ -12,6 +12,9 @@ recall-requires-clause-followable c = record {
   places = c.follows_freely.ensures.places c.if-not-follows_freely.false;
 }
 
+pub recall-requires-clause-whole : goal.recall-requires-clause-whole
+recall-requires-clause-whole c = c.follows_freely.ensures.whole c.if-not-follows_freely.false
+
 pub recall-requires-clause-anchored : goal.recall-requires-clause-anchored
 recall-requires-clause-anchored c = ap (λ (r : Request). r.anchored) c.anchored_at-from_position.ensures
 

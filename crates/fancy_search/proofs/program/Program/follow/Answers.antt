@@ -3,15 +3,19 @@ use Rattle.fancy_states.proofs.RememberedLemmas.{remembers, recalls}
 use Rattle.fancy_input.proofs.WorkLemmas.{runs_all}
 use Rattle.fancy_search.specs.Programs.{program_step_limit}
 use Rattle.fancy_search.specs.SearchCounts.{step_bound}
-use Rattle.fancy_search.proofs.SearchedLemmas.{known, nowhere}
+use Rattle.fancy_search.proofs.SearchedLemmas.{known, known_groups, nowhere}
 use Rattle.fancy_search.proofs.ProgramSizeLemmas.{parts_of_easy}
 use Rattle.fancy_search.proofs.program.Program.follow.Goals as goal
 
 pub returns-after-not-serve_on-clause-answer : goal.returns-after-not-serve_on-clause-answer
 returns-after-not-serve_on-clause-answer c on =
     let easy = parts_of_easy _ _ _ c.requires.followable.easy in
-    rw (easy.1, easy.2) (known _ _ c.args.self.now.compiled
-    (λ compiled. rw (c.args.self.now.meant, c.for_search-options.ensures) at (c.in-Ok.ensures.answer _ on compiled.coded)))
+    record {
+      same = rw (easy.1, easy.2) (known _ _ c.args.self.now.compiled
+          (λ compiled. rw (c.args.self.now.meant, c.for_search-options.ensures) at (c.in-Ok.ensures.answer _ on compiled.coded).same));
+      none = λ none. rw (easy.1, easy.2) (known_groups _ _ c.args.self.now.compiled
+          (λ compiled. rw (c.args.self.now.meant, c.for_search-options.ensures) at ((c.in-Ok.ensures.answer _ on compiled.coded).none none)));
+    }
 
 pub returns-after-not-serve_on-clause-counts : goal.returns-after-not-serve_on-clause-counts
 returns-after-not-serve_on-clause-counts c = record {

@@ -9,7 +9,7 @@ use Rattle.fancy_search.specs.Programs.{query_in}
 use Rattle.fancy_search.specs.SearchCounts.{RefusesEasy}
 use Rattle.fancy_search.proofs.KeptTablesLemmas.{noted_steps, steps_hold}
 use Rattle.fancy_search.proofs.ResultLemmas.{if_ok, if_err}
-use Rattle.fancy_search.proofs.SearchedLemmas.{attempted}
+use Rattle.fancy_search.proofs.SearchedLemmas.{attempted, found_ungrouped}
 use Rattle.fancy_search.proofs.program.Program.follow_at.Goals as goal
 
 pub follow-found-requires-clause-followable : goal.follow-found-requires-clause-followable
@@ -29,7 +29,7 @@ follow-found-requires-clause-kept c = rw c.deref_mut.ensures.value c.in_ok-steps
 pub returns-clause-answer : goal.returns-clause-answer
 returns-clause-answer c =
     if_ok _ (λ m. answer_with (replicate c.args.self.now.code.groups None) m ≡ attempt (query_in c.args.self.now c.args.asked.now) c.args.position)
-    (λ m is. rw c.anchored_at-from_position.ensures at (is false) ∙ attempted c.args.self.now c.args.asked.now c.args.position c.requires.easy c.requires.tries)
+    (λ m is. rw c.anchored_at-from_position.ensures at (found_ungrouped c.args.self.now.code m _ c.requires.whole (is false)) ∙ attempted c.args.self.now c.args.asked.now c.args.position c.requires.easy c.requires.tries)
     c.follow-found.result c.follow-found.ensures.answer
 
 pub returns-clause-notes : goal.returns-clause-notes

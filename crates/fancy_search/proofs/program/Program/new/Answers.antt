@@ -56,6 +56,7 @@ invariant_of-result c = record {
   decided = c.is_easy-easy.ensures;
   single = λ e. ∣ c.is_one_item-one_item.ensures e ∣₁;
   direct = λ end is. rw is at c.straight_end-straight.ensures;
+  alone = c.ends_no_group-ungrouped.ensures;
   followed = λ e at. plain_is _ (c.is_plain-plain.ensures.0 e at);
   light = c.in_ok-code.ensures.easy;
   limited = search rules;

@@ -10,6 +10,7 @@ use Rattle.fancy_runner.proofs.KeptTableLemmas.{again_paid}
 use Rattle.fancy_input.specs.Work.{steps_of}
 use Rattle.fancy_search.specs.SearchCounts.{RefusesEasy}
 use Rattle.fancy_search.proofs.ResultLemmas.{if_ok, if_err}
+use Rattle.fancy_search.proofs.SearchedLemmas.{found_ungrouped}
 use Rattle.fancy_search.proofs.StraightLemmas.{counts_kept}
 use Rattle.fancy_search.proofs.program.Program.search_easy.Goals as goal
 use Rattle.fancy_search.proofs.program.Program.search_easy.Goals.{else-is_steps-via-else-is_steps, else-is_steps-via-then-is_steps+in-None-1}
@@ -48,7 +49,7 @@ returns-then-allows_all_steps-2-clause-served c =
 
 pub returns-then-allows_all_steps-clause-served : goal.returns-then-allows_all_steps-clause-served
 returns-then-allows_all_steps-clause-served c = record {
-  answer = if_ok _ _ (λ m is. is c.args.asked.now.continues) c.follow.result c.follow.ensures.answer;
+  answer = if_ok _ _ (λ m is. found_ungrouped c.args.self.now.code m _ (c.args.self.now.alone c.if-self.true) (is c.args.asked.now.continues)) c.follow.result c.follow.ensures.answer;
   counts = c.follow.ensures.counts;
   idle = c.follow.ensures.idle c.args.asked.now.continues;
   refused = if_err _ (RefusesEasy c.args.self.now) (λ e memory. rw memory tt) c.follow.result c.follow.ensures.refused;
