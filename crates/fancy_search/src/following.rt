@@ -22,8 +22,11 @@ pub(crate) const MOST_WORTH: usize = 2048;
 /// A search of a list by the runner takes about as long as so many more of its steps.
 pub(crate) const SEARCH: usize = 8;
 
-/// A search that takes fewer steps at most is served by the runner alone.
-pub(crate) const SHORT: usize = 2000;
+/// A search that takes fewer steps at most is served by the runner alone, where a scan finds the few places at which a match may begin.
+const FEW_STEPS: usize = 2000;
+
+/// The same where a scan tells little of where matches begin.
+const FEWER_STEPS: usize = 500;
 
 /// The runner does not begin where its table would have more bits: it asks for all of them at once, one MiB here.
 pub(crate) const TABLE: usize = 8_388_608;
@@ -110,15 +113,21 @@ fn is_item(code: &Code) -> bool {
     code.prefilter.starts.is_some() && reads_one(code, code.start)
 }
 
-/// Whether searches with the code are worth the automaton's steps: where the runner would make many attempts, or long ones. Where a table
-/// tells words apart, the runner tries those alone that may match, which takes less. One item, or a run of one, is read where it may
-/// stand.
-pub(crate) fn is_worth_following(code: &Code) -> bool {
+/// From how many steps on that a search may take it is worth the automaton's: where the runner would make many attempts, or long ones.
+/// `None` where none is. Where a table tells words apart, the runner tries those alone that may match, which takes less. One item, or a
+/// run of one, is read where it may stand.
+pub(crate) fn least_steps(code: &Code) -> Option<usize> {
     let prefilter = &code.prefilter;
     if tells_words(prefilter) || is_item(code) || is_run(code) {
-        return false;
+        return None;
     }
-    is_told_little(prefilter) || opens_wide(code) || has_wide_loop(code)
+    if is_told_little(prefilter) {
+        return Some(FEWER_STEPS);
+    }
+    if opens_wide(code) || has_wide_loop(code) {
+        return Some(FEW_STEPS);
+    }
+    None
 }
 
 /// So many bytes are looked at for the first required text.
@@ -138,7 +147,7 @@ pub(crate) fn leaps(prefilter: &Prefilter, haystack: &[u8], first: usize, end: u
     let place = next_opening(prefilter, haystack, seen, first, seen, &mut region);
     let passed = place - first;
     match region {
-        None => true,
+        None => passed > 0,
         Some(text) => text.saturating_sub(place) < passed,
     }
 }

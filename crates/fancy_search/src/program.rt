@@ -42,9 +42,7 @@ ghost use Rattle.fancy_search.specs.declared.straight.StraightEnd.TheVariants.{L
 use crate::asked::Asked;
 use crate::begun::Begun;
 use crate::cache::{AttemptCache, AttemptNotes, Cache, Engine, Kept, RememberedSteps};
-use crate::following::{
-    LEAST_WORTH, MOST_WORTH, SEARCH, SHORT, TABLE, WORTH, is_worth_following, leaps,
-};
+use crate::following::{LEAST_WORTH, MOST_WORTH, SEARCH, TABLE, WORTH, leaps, least_steps};
 use crate::one_item::is_one_item;
 use crate::options::Options;
 use crate::step_pool::StepPool;
@@ -98,8 +96,8 @@ pub struct Program {
     plain: bool,
     /// Whether the code ends no group, so that none takes part in a match.
     ungrouped: bool,
-    /// Whether searches are worth its steps.
-    worth_following: bool,
+    /// From how many steps on that a search may take it is worth those of the automaton, if it ever is.
+    least_steps: Option<usize>,
     /// The bytes that every haystack with a match has.
     required: RequiredBytes,
     /// What is told of the machine's attempts.
@@ -141,7 +139,7 @@ impl Drop for Program {
             straight: _,
             plain: _,
             ungrouped: _,
-            worth_following: _,
+            least_steps: _,
             required: _,
             prices: _,
             pool: _,
@@ -231,7 +229,7 @@ impl Program {
         let straight = straight_end(&code);
         let plain = is_plain(&code);
         let ungrouped = ends_no_group(&code);
-        let worth_following = is_worth_following(&code);
+        let least_steps = least_steps(&code);
         let required = RequiredBytes::new(alloc, &tree, options.meaning())?;
         let prices = prices_of(alloc, &code, easy)?;
         let text = String::from_str(alloc, pattern)?;
@@ -248,7 +246,7 @@ impl Program {
             straight,
             plain,
             ungrouped,
-            worth_following,
+            least_steps,
             required,
             prices,
             pool,
@@ -789,13 +787,13 @@ impl Program {
         ensures none { result ≡ true → table_kept kept.now ≡ None }
         ensures unanchored { result ≡ true → asked.now.request.now.anchored ≡ false }
     {
-        if asked.request.anchored || !self.worth_following {
+        let Some(least) = self.least_steps else {
+            return false;
+        };
+        if asked.request.anchored || !kept.may_be_followed() {
             return false;
         }
-        if !kept.may_be_followed() {
-            return false;
-        }
-        if matches!(kept, Kept::Nothing) && !self.is_worth_beginning(asked) {
+        if matches!(kept, Kept::Nothing) && !self.is_worth_beginning(asked, least) {
             return false;
         }
         self.can_follow(asked.text)
@@ -803,10 +801,10 @@ impl Program {
 
     /// Whether a search alone, or the first of a list, may be worth the automaton's steps: it may take many, and the runner does not leap.
     #[inline(always)]
-    fn is_worth_beginning(&self, asked: &Asked<'_>) -> bool {
+    fn is_worth_beginning(&self, asked: &Asked<'_>, least: usize) -> bool {
         let (first, end) = (asked.request.effective_start(), asked.request.range_end);
         let most_steps = self.code.len().saturating_mul(end.saturating_sub(first));
-        most_steps >= SHORT && !leaps(&self.code.prefilter, asked.haystack, first, end)
+        most_steps >= least && !leaps(&self.code.prefilter, asked.haystack, first, end)
     }
 
     /// Whether the limit of steps allows all that an easy search takes at most, besides what was done before.
