@@ -13,6 +13,7 @@ use crate::told::told_at;
 use fancy_code::attempt::Attempt;
 use fancy_meaning::options::is_match_boundary;
 use fancy_prefilter::candidates::{next_candidate, next_opening};
+use fancy_prefilter::prefilter::Anchor;
 use fancy_states::cells::Cells;
 use fancy_states::origin::Origin;
 use fancy_states::rows::Target;
@@ -105,15 +106,26 @@ fn next_opened(attempt: &Attempt, from: usize, region: &mut Option<usize>) -> us
     place
 }
 
-/// The first place, from one on, at which a match may begin, by what matches open with where that is scanned for, and else by the byte
-/// there; past the last one where there is none.
+/// Whether more than first bytes tells where matches may begin: what they open with is scanned for, or they begin at the start of the
+/// text or of a line alone. Boundaries of words are met too often.
+#[inline(always)]
+fn passes_far(attempt: &Attempt) -> bool {
+    let prefilter = &attempt.code.prefilter;
+    match prefilter.anchor {
+        Anchor::AtStart | Anchor::AtLines(_) => true,
+        Anchor::Anywhere | Anchor::AtWords(_) => prefilter.scans_for_opening(),
+    }
+}
+
+/// The first place, from one on, at which a match may begin, by all that tells it where that is more than first bytes, and else by the
+/// byte there; past the last one where there is none.
 #[inline(always)]
 pub(crate) fn next_start(attempt: &Attempt, from: usize, region: &mut Option<usize>) -> usize
     requires ordered { from ≤ attempt.now.last + 1 }
     requires inside { attempt.now.last ≤ length attempt.now.haystack.now }
     ensures { IsNextPlace attempt.now from result }
 {
-    if attempt.code.prefilter.scans_for_opening() {
+    if passes_far(attempt) {
         next_opened(attempt, from, region)
     } else {
         next_place(attempt, from)
@@ -345,8 +357,8 @@ pub(crate) fn lengthen(attempt: &Attempt, cells: &Cells, from: Sole, any: bool) 
 }
 
 /// Takes steps that the table tells on ASCII characters, as long as all ways that wait began at one place. It ends where no way waits
-/// and what matches open with is to be scanned for: a loop with that scan in it takes longer. On all characters the loops need more
-/// registers.
+/// and more than first bytes tells where matches may begin: a loop with such a scan in it takes longer. On all characters the loops need
+/// more registers.
 #[inline(never)]
 pub(crate) fn follow(attempt: &Attempt, cells: &Cells, from: Sole) -> Sole
     requires sole { IsSole attempt.now cells.now from }
@@ -356,7 +368,7 @@ pub(crate) fn follow(attempt: &Attempt, cells: &Cells, from: Sole) -> Sole
     let mut at = from;
     'places: while at.end.is_none() {
         at = seek(attempt, cells, at, idle, false);
-        if at.stand.next == idle && attempt.code.prefilter.scans_for_opening() {
+        if at.stand.next == idle && passes_far(attempt) {
             return at;
         }
         match past(attempt, cells, at, idle, false) {
@@ -380,7 +392,7 @@ pub(crate) fn follow_any(attempt: &Attempt, cells: &Cells, from: Sole) -> Sole
     let mut at = from;
     'places: while at.end.is_none() {
         at = seek(attempt, cells, at, idle, true);
-        if at.stand.next == idle && attempt.code.prefilter.scans_for_opening() {
+        if at.stand.next == idle && passes_far(attempt) {
             return at;
         }
         match past(attempt, cells, at, idle, true) {
