@@ -1,5 +1,5 @@
 -- What stands for a text on its way to having its matches replaced.
-use Rattle.std.specs.Prelude.{◌≡◌, ◌++◌, ◌∷◌, true, false, List, ℕ, length, slice_range, string_bytes}
+use Rattle.std.specs.Prelude.{◌≡◌, ◌++◌, ◌∷◌, None, true, false, List, ℕ, length, slice_range, string_bytes}
 use Rattle.fancy_tree.specs.declared.error.Error.{Error}
 use Rattle.fancy_core.specs.declared.regex.Regex.{Regex}
 use Rattle.fancy_core.specs.declared.rewriting.Rewriting.{Rewriting}
@@ -25,7 +25,7 @@ todo_of w = up_to w.left (left_of (program_in w.regex.now) w.searcher)
 
 -- what a replacer sees of a match that was found, whose groups the search left in its cache
 abbrev pub seen_at : Rewriting → FoundItem → Seen
-seen_at w i = seen_of (rewriting_regex w) (rewriting_text w) (item_in w.cache i)
+seen_at w i = seen_of (rewriting_regex w) (rewriting_text w) (item_in w.cache None i)
 
 -- what is written, and the text from the end of the last match up to a byte offset
 abbrev pub written_to : ℕ → Rewriting → List ℕ
@@ -41,7 +41,7 @@ WritesTo end s t = string_bytes t.out ≡ written_to end s
 
 -- this is the first of the matches that are to be replaced, and the others are left
 abbrev pub TakesFirst : Rewriting → FoundItem → Rewriting → Type 0
-TakesFirst s i t = todo_of s ≡ item_in t.cache i ∷ todo_of t
+TakesFirst s i t = todo_of s ≡ item_in t.cache None i ∷ todo_of t
 
 -- the search for the next match may be refused by this error; once the limit is reached there is no such search
 abbrev pub RefusesSearch : Rewriting → Error → Type 0

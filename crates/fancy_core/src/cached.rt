@@ -85,6 +85,7 @@ impl Regex {
             text: haystack.is_text(),
             request: &request,
             continues: true,
+            groups: false,
         };
         let found = self.program.search(&asked, &mut cache.engines, &mut work)?;
         let Some(found) = found else {

@@ -123,6 +123,7 @@ impl Regex {
             text: haystack.is_text(),
             request: &request,
             continues: true,
+            groups: true,
         };
         let found = self.program.search(&asked, cache, &mut work)?;
         let Some(found) = found else {

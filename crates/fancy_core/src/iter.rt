@@ -70,7 +70,7 @@ impl Regex {
     {
         Matches {
             regex: self,
-            searcher: Searcher::new(RegexInput::new(haystack)),
+            searcher: Searcher::new(RegexInput::new(haystack), false),
             cache: Cache::new(self.allocator()),
         }
     }
@@ -95,7 +95,7 @@ impl Regex {
     {
         Matches {
             regex: self,
-            searcher: Searcher::new(input),
+            searcher: Searcher::new(input, false),
             cache: Cache::new(self.allocator()),
         }
     }
@@ -126,7 +126,7 @@ impl Regex {
     {
         Matches {
             regex: self,
-            searcher: Searcher::resume(input, onward),
+            searcher: Searcher::resume(input, onward, false),
             cache: Cache::new(self.allocator()),
         }
     }

@@ -370,6 +370,7 @@ impl Regex {
             text: haystack.is_text(),
             request: &request,
             continues: true,
+            groups: false,
         };
         let found = self.program.find(&asked, work)?;
         let Some(found) = found else {

@@ -1,6 +1,6 @@
 //! A text while its matches are replaced, one after another.
 
-ghost use Rattle.std.specs.Prelude.{◌≡◌, ◌≤◌, ◌↔◌, ◌⊎◌, ◌++◌, ◌∷◌, [], true, false, length, string_bytes, IsTrue, IfOk, IfErr, IfSome, OnOk, MatchBool, MatchOption, List, ℕ};
+ghost use Rattle.std.specs.Prelude.{◌≡◌, ◌≤◌, ◌↔◌, ◌⊎◌, ◌++◌, ◌∷◌, [], None, true, false, length, string_bytes, IsTrue, IfOk, IfErr, IfSome, OnOk, MatchBool, MatchOption, List, ℕ};
 ghost use Rattle.std.specs.Borrow.{Bor};
 ghost use Rattle.std.specs.Cow.{cow_str_bytes, IsBorrowedStr};
 ghost use Rattle.fancy_input.specs.Places.{is_boundary};
@@ -48,6 +48,7 @@ pub(crate) struct Rewriting<'r, 't> {
     ghost kept: { Keeps (λ (h : Bor (List ℕ)). h.now) regex.now.program searcher cache },
     ghost inside: { last ≤ length searcher.haystack.now },
     ghost cleanly: { IsTrue (is_boundary searcher.haystack.now last) },
+    ghost asks: { searcher.groups ≡ true },
     ghost before: { searcher.ended ≡ false → last ≤ searcher.request.start },
     ghost of_text: { searcher.request
         ≡ record (whole searcher.haystack.now) { start = searcher.request.start } },
@@ -70,7 +71,7 @@ impl<'r, 't> Rewriting<'r, 't> {
     {
         Rewriting {
             regex,
-            searcher: Searcher::new(RegexInput::new(text)),
+            searcher: Searcher::new(RegexInput::new(text), true),
             cache: Cache::new(regex.allocator()),
             left: limit_of(limit),
             out: String::new(regex.allocator()),
@@ -90,7 +91,7 @@ impl<'r, 't> Rewriting<'r, 't> {
             (λ o. MatchOption o (self.new.out ≡ self.old.out) (λ i.
             WritesTo i.found.start self.old self.new)) }
         ensures last { IfOk result (λ o. MatchOption o (self.new.last ≡ self.old.last)
-            (λ i. self.new.last ≡ stop_of (item_in self.new.cache i))) }
+            (λ i. self.new.last ≡ stop_of (item_in self.new.cache None i))) }
         ensures left { IfOk result (λ o. IfSome o (λ _. self.new.left ≡ one_fewer self.old.left)) }
         ensures found { IfOk result
             (λ o. MatchOption o (self.new.found ≡ self.old.found) (λ _. self.new.found ≡ true)) }

@@ -83,7 +83,7 @@ impl Regex {
     {
         Split {
             regex: self,
-            searcher: Searcher::new(RegexInput::new(text)),
+            searcher: Searcher::new(RegexInput::new(text), false),
             cache: Cache::new(self.allocator()),
             last: 0,
             ended: false,

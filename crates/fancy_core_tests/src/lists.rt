@@ -65,6 +65,7 @@ fn steps_of_list(rt: &impl Abort, alloc: Global, program: &Program, text: &str) 
             text: true,
             request: &request,
             continues: true,
+            groups: true,
         };
         let answer = program.search_next(&asked, &mut kept, &mut known, &mut cache, &mut work);
         let Some(found) = answer.expect(rt, "a search") else {

@@ -1,5 +1,5 @@
 -- Lemmas on one step of an iteration, over a haystack of any type.
-use Rattle.std.proofs.Common.{ℕ, ◌≡◌, Bool, true, false, not, ◌&&◌, nat_eq, List, ◌∷◌, Some, refl, sym, ◌∙◌, ap, subst}
+use Rattle.std.proofs.Common.{ℕ, ◌≡◌, Bool, true, false, not, ◌&&◌, nat_eq, List, ◌∷◌, Option, Some, refl, sym, ◌∙◌, ap, subst}
 use Rattle.std.proofs.lemmas.Option.{same_Some}
 use Rattle.std.specs.Cmp.Derive.{both_true}
 use Rattle.fancy_input.specs.declared.input.Request.{Request}
@@ -74,9 +74,9 @@ same_standing : (a b : ℕ) (c d e f x y : Bool) → a ≡ b → c ≡ d → e �
 same_standing a b c d e f x y p q r s = rw (p, q, r, s) refl
 
 -- where an iteration stands once it has gone on after an item
-pub stands_after : {H : Type 0} (tx : H → Bool) (by : H → List ℕ) (p : Program) (h h_between : H) (r r_after : Request) (o_after d a : Bool) (cache : Cache) (l : FoundItem) → h_between ≡ h → o_after ≡ false → r_after.start ≡ next_start (tx h_between) (by h_between) (from_to l.found.start l.found.end) → d ≡ not (nat_eq l.found.start l.found.end && nat_eq l.from l.found.end) → a ≡ not (nat_eq l.found.start l.found.end)
-    → the_standing r_after.start d a o_after ≡ standing_after (scan p (tx h) (by h) r) (item_in cache l)
-stands_after tx by p h h_between r r_after o_after d a cache l same_between open_after es ed ea =
+pub stands_after : {H : Type 0} (tx : H → Bool) (by : H → List ℕ) (p : Program) (h h_between : H) (r r_after : Request) (o_after d a : Bool) (cache : Cache) (o : Option MatchItem) (l : FoundItem) → h_between ≡ h → o_after ≡ false → r_after.start ≡ next_start (tx h_between) (by h_between) (from_to l.found.start l.found.end) → d ≡ not (nat_eq l.found.start l.found.end && nat_eq l.from l.found.end) → a ≡ not (nat_eq l.found.start l.found.end)
+    → the_standing r_after.start d a o_after ≡ standing_after (scan p (tx h) (by h) r) (item_in cache o l)
+stands_after tx by p h h_between r r_after o_after d a cache o l same_between open_after es ed ea =
     let q : r_after.start ≡ next_start (tx h) (by h) (from_to l.found.start l.found.end) = subst (λ (x : _). r_after.start ≡ next_start (tx x) (by x) (from_to l.found.start l.found.end)) same_between es in
     same_standing _ _ _ _ _ _ _ _ q ed ea open_after
 

@@ -17,3 +17,4 @@ mod OneItemLemmas
 mod StraightLemmas
 pub mod TriedAtLemmas
 pub mod KeptTablesLemmas
+pub mod HeldLemmas

@@ -29,7 +29,7 @@ use Rattle.fancy_code.specs.Queries.{answer_with}
 use Rattle.fancy_code.specs.Code.{instrs_of}
 use Rattle.fancy_code.specs.declared.code.Code.{Code}
 use Rattle.fancy_states.specs.Futures.{EndsNoGroup}
-use Rattle.fancy_states.specs.Search.{IsFoundAs}
+use Rattle.fancy_states.specs.Search.{IsFoundAs, groups_of}
 use Rattle.fancy_code.specs.declared.found.Found.{Found}
 use Rattle.fancy_search.specs.declared.asked.Asked.{Asked}
 use Rattle.fancy_search.specs.Served.{StandsIn, IsPosition, KeepsCounts, ServesAlone}
@@ -151,6 +151,13 @@ found_by q groups (Some f) e = ap (option_map span_of) e
 pub found_ungrouped : (code : Code) (m : Option Found) (o : Option Answer) → EndsNoGroup (instrs_of code) → IsFoundAs code m o
     → answer_with (replicate code.groups None) m ≡ o
 found_ungrouped code m o none is = subst (λ (groups : List (Option Span)). answer_with groups m ≡ o) (is.none none) is.same
+
+-- and where they are not asked, they are those of the answer
+pub found_unasked : (code : Code) (m : Option Found) (o : Option Answer) → IsFoundAs code m o → answer_with (groups_of 0 o) m ≡ o
+found_unasked code None None is = refl
+found_unasked code None (Some f) is = is.same
+found_unasked code (Some m) None is = let none = is.same in cc
+found_unasked code (Some m) (Some f) is = is.same
 
 -- what serves a search for an easy pattern that is not hopeless serves one whose groups are not asked, whatever groups go with what it found
 pub served_some : (r : Program) (asked : Asked) → program_is_easy r ≡ true → is_hopeless r (query_in r asked) ≡ false

@@ -1,20 +1,26 @@
 -- What a search of an iteration found, with the groups that it left in its cache.
-use Rattle.std.specs.Prelude.{◌≤◌, ℕ, Bool, List, Option, Result}
+use Rattle.std.specs.Prelude.{◌≤◌, ℕ, Bool, List, [], Option, None, Some, Result}
 use Rattle.fancy_tree.specs.declared.error.Error.{Error}
 use Rattle.fancy_code.specs.declared.found.Found.{Found}
+use Rattle.fancy_input.specs.declared.span.Span.{Span}
 use Rattle.fancy_search.specs.declared.program.Program.{Program}
 use Rattle.fancy_search.specs.declared.cache.Cache.{Cache}
 use Rattle.fancy_search.specs.declared.searcher.FoundItem.{FoundItem}
 use Rattle.fancy_search.specs.declared.searcher.Searcher.{Searcher}
-use Rattle.fancy_search.specs.Cached.{found_at}
+use Rattle.fancy_search.specs.Cached.{found_at, found_with, groups_or}
 use Rattle.fancy_search.specs.Groups.{AreCut, spans_of}
 use Rattle.fancy_search.specs.MatchList.{MatchItem}
 use Rattle.fancy_search.specs.Remaining.{GivesFirst}
-use Rattle.fancy_search.specs.Searchers.{IsCutOut, items_of, RefusesItem}
+use Rattle.fancy_search.specs.Searchers.{IsCutOut, item_next, items_of, RefusesItem}
 
--- what was found, with the groups that the search left in its cache
-abbrev pub item_in : Cache → FoundItem → MatchItem
-item_in cache l = record { found = found_at l.found cache; from = l.from; continues = l.continues }
+-- the groups of an item
+abbrev pub item_groups : Option MatchItem → List (Option Span)
+item_groups None = []
+item_groups (Some i) = i.found.state.captures
+
+-- What was found, with the groups that the search left in its cache. Where they were not asked, they are those of this item.
+abbrev pub item_in : Cache → Option MatchItem → FoundItem → MatchItem
+item_in cache item l = record { found = found_with l.found (groups_or cache (item_groups item)); from = l.from; continues = l.continues }
 
 -- the haystack can be cut at the groups of what was found, which the search left in this cache
 pub record HasGroups (text : Bool) (haystack : List ℕ) (found : Found) (cache : Cache) : Type 0 where
@@ -33,4 +39,4 @@ pub record IsGiven {S : Type 0} {g : _} (text : S → Bool) (bytes : S → List 
 -- One step: the first of the items that are left, whose groups the search left in its cache; or a refusal, after which none is left.
 abbrev pub GivesItem : {S : Type 0} {g : _} → (S → Bool) → (S → List ℕ) → Program → Cache → Searcher S g → Option (Result FoundItem Error) → Searcher S g → Type 0
 GivesItem text bytes program cache before r after =
-    GivesFirst (λ w e. RefusesItem text bytes program w e) (item_in cache) (λ w. items_of text bytes program w) before r after
+    GivesFirst (λ w e. RefusesItem text bytes program w e) (item_in cache (item_next text bytes program before)) (λ w. items_of text bytes program w) before r after

@@ -25,6 +25,7 @@ pub record GoesTo {S : Type 0} {g : _} (before after : Searcher S g) (start : �
   pub skips_empty : after.skips_empty ≡ skips
   pub ended : after.ended ≡ before.ended
   pub kept : after.kept ≡ before.kept
+  pub groups : after.groups ≡ before.groups
 
 -- what it searches, again and again
 abbrev pub scan_of : {S : Type 0} {g : _} → (S → Bool) → (S → List ℕ) → Program → Searcher S g → Scan

@@ -1,5 +1,5 @@
 -- What searches and attempts answer, and what they add to the counts.
-use Rattle.std.specs.Prelude.{◌≡◌, ◌≤◌, ℕ, List, Result, Option, None, true, length, IfOk, IfErr}
+use Rattle.std.specs.Prelude.{◌≡◌, ◌≤◌, ℕ, Bool, List, Result, Option, None, true, length, IfOk, IfErr}
 use Rattle.fancy_tree.specs.declared.error.Error.{Error}
 use Rattle.fancy_input.specs.declared.input.Request.{Request}
 use Rattle.fancy_input.specs.Requests.{effective_start}
@@ -17,7 +17,7 @@ use Rattle.fancy_states.specs.Futures.{ArePlain}
 use Rattle.fancy_states.specs.Search.{KeepsPlaces}
 use Rattle.fancy_search.specs.Options.{search_options}
 use Rattle.fancy_search.specs.Programs.{KeepsCharacters, program_is_easy, program_options, program_limit, program_stack_limit, query_in}
-use Rattle.fancy_search.specs.Cached.{IsAnswerIn, IsCleanlyFound, IsFoundBy}
+use Rattle.fancy_search.specs.Cached.{IsAnswerIn, IsCleanlyFound, IsFoundBy, holds_groups}
 use Rattle.fancy_search.specs.SearchCounts.{IsHardProgram, TriesNothing, RefusesQuery, RefusesEasy, AllowsQuery, IsStopped, IsOutOfSteps, HeedsStepLimit, HasNoStepsLeft, AddsReturns, AddsReturnsUpTo, IfFound, returns_taken}
 
 -- the position is from the effective start of the request to the end of its range
@@ -61,6 +61,7 @@ HeedsStackLimit r before after = HeedsLimit (program_stack_limit r) before.machi
 -- The answer of a search, with what it adds to the counts, whatever the searches before it left.
 pub record Serves (r : Program) (asked : Asked) (result : Result (Option Found) Error) (old new : Cache) (before after : Work) : Type 0 where
   pub answer : IfOk result (λ m. IsAnswerIn m new (query_in r asked))
+  pub held : asked.groups ≡ true → IfFound result (λ _. holds_groups new.served ≡ true)
   pub stands : IfFound result (StandsIn r asked)
   pub counts : KeepsCounts r result before after
   pub idle : TriesNothing r (query_in r asked) → steps_of after ≡ steps_of before
@@ -82,8 +83,9 @@ pub record ServesAlone (r : Program) (asked : Asked) (result : Result (Option Fo
   pub allowed : IfOk result (λ _. AllowsQuery r (query_in r asked))
 
 -- The answer of a search for an easy pattern, with what it adds to the counts. It does not work in what the machine holds.
-pub record ServesEasily (r : Program) (q : Query) (result : Result (Option Found) Error) (old new : Cache) (before after : Work) : Type 0 where
+pub record ServesEasily (r : Program) (q : Query) (groups : Bool) (result : Result (Option Found) Error) (old new : Cache) (before after : Work) : Type 0 where
   pub answer : IfOk result (λ m. IsAnswerIn m new q)
+  pub held : groups ≡ true → IfFound result (λ _. holds_groups new.served ≡ true)
   pub counts : KeepsCounts r result before after
   pub idle : NoneTried (program_options r).seek q → steps_of after ≡ steps_of before
   pub refused : IfErr result (RefusesEasy r)

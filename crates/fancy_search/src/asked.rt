@@ -16,6 +16,8 @@ pub struct Asked<'h> {
     pub request: &'h Request,
     /// Whether `\G` is on.
     pub continues: bool,
+    /// Whether the groups of the match are asked for.
+    pub groups: bool,
     pub ghost inside: { request.now.range_end ≤ length haystack.now },
     pub ghost utf8: { text ≡ true → IsUtf8 haystack.now } by { Prim.hlevel props },
 }

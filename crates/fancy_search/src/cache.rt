@@ -28,6 +28,8 @@ pub enum Engine {
     /// The automaton, or the reading of straight code, where the code of an easy pattern ends no group. A pattern may have groups
     /// still, so many with the whole match, none of which takes part in a match.
     WithoutGroups(usize),
+    /// The automaton, for a search whose groups were not asked: it holds none.
+    Unasked,
 }
 
 /// What a search takes over from those before, of one list or from one position to the next, which left it in what they worked in.
@@ -235,14 +237,15 @@ impl Cache {
     }
 
     /// Where the group with this number stands in what the search before found, in byte offsets. `None` where the group took
-    /// no part, or there is none with this number. After a search that found nothing the answer means nothing.
+    /// no part, or there is none with this number. After a search that found nothing, or whose groups were not asked, the answer means
+    /// nothing.
     pub fn group(&self, number: usize) -> Option<Span>
         ensures { result ≡ slice_index_or (cached_groups self.now) number None }
     {
         match self.served {
             Engine::Runner => self.runner.group(number),
             Engine::Machine => self.machine.group(number),
-            Engine::WithoutGroups(_) => None,
+            Engine::WithoutGroups(_) | Engine::Unasked => None,
         }
     }
 }

@@ -18,10 +18,10 @@ ghost use Rattle.fancy_runner.specs.Groups.{groups_in};
 ghost use Rattle.fancy_runner.specs.KeptTable.{table_base, table_in, place_kept, past_tried, steps_ahead, steps_from};
 ghost use Rattle.fancy_input.specs.Work.{steps_of, returns_of, units_of};
 ghost use Rattle.fancy_meaning.specs.Tried.{NoneTried};
-ghost use Rattle.fancy_meaning.specs.Search.{search};
+ghost use Rattle.fancy_meaning.specs.Search.{Answer, search};
 ghost use Rattle.fancy_code.specs.Queries.{answer_with};
 ghost use Rattle.fancy_states.specs.Futures.{ArePlain, EndsNoGroup};
-ghost use Rattle.fancy_states.specs.Search.{IsFoundAs, KeepsPlaces};
+ghost use Rattle.fancy_states.specs.Search.{IsFoundAs, KeepsPlaces, groups_of};
 ghost use Rattle.fancy_states.specs.Counts.{AddsSteps};
 ghost use Rattle.fancy_bytes.specs.Lacks.{AreKnown, AreRequired};
 ghost use Rattle.fancy_splits.specs.Told.{ArePrices};
@@ -34,7 +34,7 @@ ghost use Rattle.fancy_search.specs.Compiled.{IsSpelled, IsCompiled};
 ghost use Rattle.fancy_search.specs.Options.{meaning_in, dialect_of, is_easy_under, search_options};
 ghost use Rattle.fancy_search.specs.Refusals.{error_of};
 ghost use Rattle.fancy_search.specs.ProgramSize.{IsRefusedUnder, RefusesPattern, passes};
-ghost use Rattle.fancy_search.specs.Cached.{IsAnswerIn, IsAttemptIn};
+ghost use Rattle.fancy_search.specs.Cached.{IsAnswerIn, IsAttemptIn, groups_by, holds_groups};
 ghost use Rattle.fancy_search.specs.OneItem.{AreOneItems, answer_to};
 ghost use Rattle.fancy_search.specs.Straight.{past_end, straight_end};
 ghost use Rattle.fancy_search.specs.declared.straight.StraightEnd.TheVariants.{Loop};
@@ -511,8 +511,8 @@ impl Program {
         requires room { HasRoomFor self.now asked.now.request.now work.old }
         requires kept { IsKeptFor self.now asked.now kept.old
             (effective_start asked.now.request.now) cache.old }
-        ensures served { ServesEasily self.now (query_in self.now asked.now) result
-            cache.old cache.new work.old work.new }
+        ensures served { ServesEasily self.now (query_in self.now asked.now) asked.now.groups
+            result cache.old cache.new work.old work.new }
         ensures kept { IfFound result (λ f. IsKeptFor self.now asked.now kept.new f.end cache.new) }
         ensures held { IfOk result (λ _. is_steps kept.new ≡ true
             → HoldsSteps self.now cache.new.steps) }
@@ -527,14 +527,11 @@ impl Program {
         ensures unlimited { kept.old ≡ Kept.Nothing
             → AllowsAllSteps self.now asked.now.request.now work.old → IsOutOfSteps result → ⊥ }
     {
-        if self.ungrouped
-            && self.is_followed(asked, kept)
-            && self.allows_all_steps(*asked.request, work)
-        {
+        if self.is_followed(asked, kept) && self.allows_all_steps(*asked.request, work) {
             if kept.is_steps()
                 && let Some(steps) = &mut cache.steps
             {
-                cache.served = Engine::WithoutGroups(self.code.groups);
+                cache.served = self.without_groups();
                 return self.follow(asked.haystack, *asked.request, kept, steps, work);
             }
             // a copy is lent, so that the other has no address
@@ -570,13 +567,14 @@ impl Program {
         work: &mut Work,
     ) -> Result<Option<Found>>
         requires followable { IsFollowable self.now haystack.now request }
-        requires whole { EndsNoGroup (instrs_of self.now.code) }
         requires unanchored { request.anchored ≡ false }
         requires room { HasRoomFor self.now request work.old }
         requires allowed { AllowsAllSteps self.now request work.old }
         requires kept { is_steps kept.old ≡ true → HoldsSteps self.now cache.old.steps }
         ensures answer { IfOk result (λ m. (on : Bool)
             → IsAnswerIn m cache.new (asked_of self.now haystack.now request on)) }
+        ensures held { self.now.ungrouped ≡ true
+            → IfFound result (λ _. holds_groups cache.new.served ≡ true) }
         ensures counts { KeepsCounts self.now result work.old work.new }
         ensures idle { (on : Bool) → NoneTried (program_options self.now).seek
             (asked_of self.now haystack.now request on) → steps_of work.new ≡ steps_of work.old }
@@ -600,12 +598,27 @@ impl Program {
                 Begun::Left(rest) => request = rest,
             }
         }
-        cache.served = Engine::WithoutGroups(self.code.groups);
+        cache.served = self.without_groups();
         let first = request.effective_start();
         let mut steps = self.steps_for(*kept, cache.steps.take(), haystack.len(), first)?;
         let found = self.follow(haystack, request, kept, &mut steps, work);
         cache.steps = Some(steps);
         found
+    }
+
+    /// What the automaton serves as, which tells no group: none takes part where the code ends none, and else they are not asked.
+    #[inline(always)]
+    fn without_groups(&self) -> Engine
+        ensures held { self.now.ungrouped ≡ true → holds_groups result ≡ true }
+        ensures answer { (m : Option Found) (answer : Option Answer) (runner machine : List (Option Span))
+            → IsFoundAs self.now.code m answer
+            → answer_with (groups_by result runner machine (groups_of 0 answer)) m ≡ answer }
+    {
+        if self.ungrouped {
+            Engine::WithoutGroups(self.code.groups)
+        } else {
+            Engine::Unasked
+        }
     }
 
     /// How long the runner serves before the automaton does, from a search for this on, where this is kept. `None` where it does not: its
@@ -778,7 +791,8 @@ impl Program {
         self.keeps_places(text)
     }
 
-    /// Whether the automaton serves a search: where it follows the code, the search is not anchored, and it is worth its steps.
+    /// Whether the automaton serves a search: where it follows the code, no group is to be told, the search is not anchored, and it is
+    /// worth its steps.
     #[inline(always)]
     fn is_followed(&self, asked: &Asked<'_>, kept: &Kept) -> bool
         ensures plain { result ≡ true → ArePlain (instrs_of self.now.code) }
@@ -786,10 +800,14 @@ impl Program {
             (search_options self.now.options).on_boundaries }
         ensures none { result ≡ true → table_kept kept.now ≡ None }
         ensures unanchored { result ≡ true → asked.now.request.now.anchored ≡ false }
+        ensures told { result ≡ true → asked.now.groups ≡ true → self.now.ungrouped ≡ true }
     {
         let Some(least) = self.least_steps else {
             return false;
         };
+        if asked.groups && !self.ungrouped {
+            return false;
+        }
         if asked.request.anchored || !kept.may_be_followed() {
             return false;
         }

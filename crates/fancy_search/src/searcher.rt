@@ -69,6 +69,8 @@ pub struct Searcher<S: Haystack> {
     kept: Kept,
     // what is known of the haystack's bytes
     known: KnownBytes,
+    // whether the groups of each match are asked for
+    groups: bool,
     pub ghost ordered: { request.range_start ≤ request.range_end },
     pub ghost inside: { request.range_end ≤ length (S.bytes haystack) },
     pub ghost short: { length (S.bytes haystack) < 2 ^ 63 },
@@ -93,28 +95,31 @@ impl<S: Input> Searcher<S> {
     ghost use Rattle.fancy_search.specs.Searchers.{IsSuited, GoesTo, IsCutOut, KeepsEnd, scan_of, standing_of, answer_next, item_next, start_next, end_of_items, place_after, start_after, RefusesAnswer, RefusesItem, AllowsAnswer, AllowsItem};
     ghost use Rattle.fancy_search.specs.FoundItems.{item_in, HasGroupsOf, IsGiven, GivesItem};
     ghost use Rattle.fancy_search.specs.SearchCounts.{IfFound};
+    ghost use Rattle.fancy_search.specs.Cached.{holds_groups};
 
-    /// The iteration of `input`.
-    pub fn new(input: RegexInput<S>) -> Searcher<S>
+    /// The iteration of `input`. `groups` says whether the groups of each match are asked for.
+    pub fn new(input: RegexInput<S>, groups: bool) -> Searcher<S>
         ensures haystack { result.haystack ≡ haystack_in input }
         ensures request { result.request ≡ request_in input }
         ensures continues { result.continues ≡ true }
         ensures skips_empty { result.skips_empty ≡ false }
         ensures ended { result.ended ≡ false }
         ensures kept { result.kept ≡ Kept.Nothing }
+        ensures groups { result.groups ≡ groups }
         ensures keeps { (program : Program) (cache : Cache) → Keeps S.bytes program result cache }
     {
-        Searcher::resume(input, Onward::first())
+        Searcher::resume(input, Onward::first(), groups)
     }
 
     /// The iteration of `input` as one goes on that came so far.
-    pub fn resume(input: RegexInput<S>, onward: Onward) -> Searcher<S>
+    pub fn resume(input: RegexInput<S>, onward: Onward, groups: bool) -> Searcher<S>
         ensures haystack { result.haystack ≡ haystack_in input }
         ensures request { result.request ≡ request_in input }
         ensures continues { result.continues ≡ onward.continues }
         ensures skips_empty { result.skips_empty ≡ onward.skips_empty }
         ensures ended { result.ended ≡ false }
         ensures kept { result.kept ≡ Kept.Nothing }
+        ensures groups { result.groups ≡ groups }
         ensures keeps { (program : Program) (cache : Cache) → Keeps S.bytes program result cache }
     {
         let haystack = input.haystack();
@@ -128,6 +133,7 @@ impl<S: Input> Searcher<S> {
             ended: false,
             kept: Kept::Nothing,
             known: KnownBytes::new(),
+            groups,
         }
     }
 
@@ -220,9 +226,11 @@ impl<S: Input> Searcher<S> {
         requires suits { IsSuited S.text S.bytes program.now self.old }
         requires kept { KeepsFrom S.bytes program.now self.old cache.old
             (effective_start self.old.request) }
-        ensures value { IfOk result
-            (λ o. option_map (item_in cache.new) o
+        ensures value { IfOk result (λ o.
+            option_map (item_in cache.new (answer_next S.text S.bytes program.now self.old)) o
             ≡ answer_next S.text S.bytes program.now self.old) }
+        ensures groups_held { self.old.groups ≡ true
+            → IfFound result (λ _. holds_groups cache.new.served ≡ true) }
         ensures item { IfFound result (λ i. IsGiven S.text S.bytes self.old i cache.new) }
         ensures kept { IfFound result
             (λ i. KeepsFrom S.bytes program.now self.new cache.new i.found.end) }
@@ -233,6 +241,7 @@ impl<S: Input> Searcher<S> {
         ensures continues { self.new.continues ≡ self.old.continues }
         ensures skips_empty { self.new.skips_empty ≡ self.old.skips_empty }
         ensures ended { self.new.ended ≡ self.old.ended }
+        ensures groups { self.new.groups ≡ self.old.groups }
         ensures refused { IfErr result (λ e. RefusesAnswer S.bytes program.now self.old e) }
         ensures allowed { IfOk result (λ _. AllowsAnswer S.bytes program.now self.old) }
     {
@@ -242,6 +251,7 @@ impl<S: Input> Searcher<S> {
             text: self.haystack.is_text(),
             request: &self.request,
             continues: self.continues,
+            groups: self.groups,
         };
         let mut work = Work::new();
         let found = program.search_next(&asked, &mut self.kept, &mut self.known, cache, &mut work)?;
@@ -262,9 +272,11 @@ impl<S: Input> Searcher<S> {
         requires suits { IsSuited S.text S.bytes program.now self.old }
         requires kept { KeepsFrom S.bytes program.now self.old cache.old
             (effective_start self.old.request) }
-        ensures value { IfOk result
-            (λ o. option_map (item_in cache.new) o
+        ensures value { IfOk result (λ o.
+            option_map (item_in cache.new (item_next S.text S.bytes program.now self.old)) o
             ≡ item_next S.text S.bytes program.now self.old) }
+        ensures groups_held { self.old.groups ≡ true
+            → IfFound result (λ _. holds_groups cache.new.served ≡ true) }
         ensures start { IfOk result
             (λ _. self.new.request.start ≡ start_next S.text S.bytes program.now self.old) }
         ensures item { IfFound result (λ i. IsGiven S.text S.bytes self.old i cache.new) }
@@ -276,6 +288,7 @@ impl<S: Input> Searcher<S> {
         ensures request { self.new.request
             ≡ record self.old.request { start = self.new.request.start } }
         ensures ended { self.new.ended ≡ false }
+        ensures groups { self.new.groups ≡ self.old.groups }
         ensures refused { IfErr result (λ e. RefusesItem S.text S.bytes program.now self.old e) }
         ensures allowed { IfOk result (λ _. AllowsItem S.text S.bytes program.now self.old) }
     {
@@ -301,7 +314,8 @@ impl<S: Input> Searcher<S> {
             (λ _. KeepsEnd S.text S.bytes program.now self.old self.new) }
         ensures allowed { UnlessRefusal result (AllowsItem S.text S.bytes program.now self.old) }
         ensures goes_on { IfItem result (λ i. standing_of self.new
-            ≡ standing_after (scan_of S.text S.bytes program.now self.old) (item_in cache.new i)) }
+            ≡ standing_after (scan_of S.text S.bytes program.now self.old)
+            (item_in cache.new (item_next S.text S.bytes program.now self.old) i)) }
         ensures rests { IfNone result
             (self.new.request.start ≡ end_of_items S.text S.bytes program.now self.old) }
         ensures haystack { self.new.haystack ≡ self.old.haystack }
@@ -314,6 +328,9 @@ impl<S: Input> Searcher<S> {
         ensures placed { IfItem result (λ i. IsCutOut S.text S.bytes self.old i) }
         ensures after { IfItem result (λ i. self.old.request.start ≤ i.found.start) }
         ensures groups { IfItem result (λ i. HasGroupsOf S.text S.bytes self.old i cache.new) }
+        ensures groups_held { self.old.groups ≡ true
+            → IfItem result (λ _. holds_groups cache.new.served ≡ true) }
+        ensures asks { self.new.groups ≡ self.old.groups }
         ensures moved { IfItem result (λ i. i.found.end ≤ self.new.request.start) }
         ensures stands { IfItem result
             (λ i. self.new.request.start ≡ start_after S.text S.bytes self.old i) }
@@ -344,6 +361,7 @@ impl<S: Input> Searcher<S> {
         ensures request { self.new.request
             ≡ record self.old.request { start = self.old.request.range_end + 1 } }
         ensures ended { self.new.ended ≡ true }
+        ensures groups { self.new.groups ≡ self.old.groups }
     {
         self.ended = true;
         self.request.start = self.request.range_end + 1;

@@ -1,6 +1,6 @@
 //! Iterators over matches with their groups.
 
-ghost use Rattle.std.specs.Prelude.{◌≡◌, ◌<◌, ◌^◌, false};
+ghost use Rattle.std.specs.Prelude.{◌≡◌, ◌<◌, ◌^◌, true, false};
 ghost use Rattle.std.specs.Iterator.{at_most};
 ghost use Rattle.fancy_input.specs.Inputs.{haystack_in, request_in};
 ghost use Rattle.fancy_input.specs.Requests.{whole};
@@ -13,8 +13,9 @@ use crate::iter::Matches;
 use crate::regex::Regex;
 use fancy_input::input::{Haystack, Input};
 use fancy_input::regex_input::RegexInput;
+use fancy_search::cache::Cache;
 use fancy_search::groups::groups_found;
-use fancy_search::searcher::Onward;
+use fancy_search::searcher::{Onward, Searcher};
 use fancy_tree::error::{Error, Result};
 
 /// The matches of an input with their groups, one after another.
@@ -24,6 +25,7 @@ use fancy_tree::error::{Error, Result};
 #[derive(Drop)]
 pub struct CaptureMatches<'r, S: Haystack> {
     matches: Matches<'r, S>,
+    ghost asks: { matches.searcher.groups ≡ true },
 }
 
 impl Regex {
@@ -35,6 +37,7 @@ impl Regex {
     /// ```text
     /// Regex::new(alloc, "a(b)?")?.captures_iter("aab")  // 0..1, and 1..3 with group 1 at 2..3
     /// ```
+    #[tactic(auto, using(fancy_search::proofs::ScanLemmas::few_turns))]
     pub fn captures_iter<S: Input>(&self, haystack: S) -> CaptureMatches<'_, S>
         requires suits { Suits (options_in self.now) (S.text haystack) (S.bytes haystack) }
         ensures matches { groups_left S.text S.bytes result
@@ -47,7 +50,11 @@ impl Regex {
         ensures request { next_request (matches_in result) ≡ whole (S.bytes haystack) }
     {
         CaptureMatches {
-            matches: self.find_iter(haystack),
+            matches: Matches {
+                regex: self,
+                searcher: Searcher::new(RegexInput::new(haystack), true),
+                cache: Cache::new(self.allocator()),
+            },
         }
     }
 
@@ -57,6 +64,7 @@ impl Regex {
     /// let input = RegexInput::new("ba").from_pos(1);
     /// Regex::new(alloc, "(a)|b")?.captures_iter_input(input)    // 1..2, group 1 1..2
     /// ```
+    #[tactic(auto, using(fancy_search::proofs::ScanLemmas::few_turns))]
     pub fn captures_iter_input<S: Input>(&self, input: RegexInput<S>) -> CaptureMatches<'_, S>
         requires searched { CanSearchInput S.text S.bytes (options_in self.now) input }
         ensures matches { groups_left S.text S.bytes result
@@ -69,7 +77,11 @@ impl Regex {
         ensures request { next_request (matches_in result) ≡ request_in input }
     {
         CaptureMatches {
-            matches: self.find_iter_input(input),
+            matches: Matches {
+                regex: self,
+                searcher: Searcher::new(input, true),
+                cache: Cache::new(self.allocator()),
+            },
         }
     }
 
@@ -82,6 +94,7 @@ impl Regex {
     /// let (input, onward) = (matches.input(), matches.onward());
     /// regex.resume_captures(input, onward)             // 3..3, without group 1
     /// ```
+    #[tactic(auto, using(fancy_search::proofs::ScanLemmas::few_turns))]
     pub fn resume_captures<S: Input>(
         &self,
         input: RegexInput<S>,
@@ -100,7 +113,11 @@ impl Regex {
         ensures goes_on { has_ended (matches_in result) ≡ false }
     {
         CaptureMatches {
-            matches: self.resume_matches(input, onward),
+            matches: Matches {
+                regex: self,
+                searcher: Searcher::resume(input, onward, true),
+                cache: Cache::new(self.allocator()),
+            },
         }
     }
 }

@@ -158,6 +158,7 @@ impl Trials {
             text: false,
             request: &request,
             continues: true,
+            groups: true,
         };
         let Some(found) = self.find_at(index, member, &asked, position)? else {
             return Ok(None);

@@ -73,6 +73,7 @@ impl RegexSet {
             text: haystack.is_text(),
             request: &here,
             continues: true,
+            groups: true,
         };
         let mut longest = None;
         let mut end = place;

@@ -1,4 +1,4 @@
-use Rattle.std.proofs.Common.{rules, false, List, ℕ, ◌≡◌, [], ◌∷◌, ◌++◌, string_bytes, slice_range, refl, inl, sym, ◌∙◌, ap}
+use Rattle.std.proofs.Common.{rules, false, List, ℕ, ◌≡◌, [], ◌∷◌, ◌++◌, string_bytes, slice_range, None, refl, inl, sym, ◌∙◌, ap}
 use Rattle.std.specs.Prelude.{◌⊎◌}
 use Rattle.std.proofs.lemmas.Result.{err_from_is_err_and}
 use Rattle.fancy_tree.specs.declared.error.Error.TheVariants.{Memory}
@@ -32,18 +32,18 @@ matches-preserved c =
     let last = rw c.in-Some.is at c.in_ok-next_match.ensures.last in
     let found = rw c.in-Some.is at c.in_ok-next_match.ensures.found in
     let left = rw c.in-Some.is at c.in_ok-next_match.ensures.left in
-    let todo : todo_of before ≡ item_in match.cache item ∷ todo_of after = steps ∙ ap (λ (z : List MatchItem). item_in match.cache item ∷ z) (sym stays.todo) in
-    let part : string_bytes match.out ≡ string_bytes before.out ++ slice_range c.args.text.now before.last (start_of (item_in match.cache item)) = written ∙ ap (λ (z : List ℕ). string_bytes before.out ++ slice_range z before.last item.found.start) c.matches.invariant.text in
-    let more : string_bytes after.out ≡ (string_bytes before.out ++ slice_range c.args.text.now before.last (start_of (item_in match.cache item))) ++ c.args.fixed.now = c.in_ok-push.ensures.ok ∙ ap (λ (z : List ℕ). z ++ c.args.fixed.now) part in
+    let todo : todo_of before ≡ item_in match.cache None item ∷ todo_of after = steps ∙ ap (λ (z : List MatchItem). item_in match.cache None item ∷ z) (sym stays.todo) in
+    let part : string_bytes match.out ≡ string_bytes before.out ++ slice_range c.args.text.now before.last (start_of (item_in match.cache None item)) = written ∙ ap (λ (z : List ℕ). string_bytes before.out ++ slice_range z before.last item.found.start) c.matches.invariant.text in
+    let more : string_bytes after.out ≡ (string_bytes before.out ++ slice_range c.args.text.now before.last (start_of (item_in match.cache None item))) ++ c.args.fixed.now = c.in_ok-push.ensures.ok ∙ ap (λ (z : List ℕ). z ++ c.args.fixed.now) part in
     record {
       regex = stays.regex ∙ (c.in_ok-next_match.ensures.regex ∙ c.matches.invariant.regex);
       text = stays.text ∙ (c.in_ok-next_match.ensures.text ∙ c.matches.invariant.text);
       allowed = λ later. c.matches.invariant.allowed ((rw c.in-Some.is at c.in_ok-next_match.ensures.allowed) (stays.allowed later));
-      goes = goes_on (filling c.args.self.now c.args.text.now c.args.limit) _ _ _ _ _ _ _ _ _ _ _ (item_in match.cache item) _ _ _ c.args.fixed.now todo refl (refl, refl) more (stays.last ∙ last) (stays.found ∙ found) (stays.left ∙ left) c.matches.invariant.goes;
+      goes = goes_on (filling c.args.self.now c.args.text.now c.args.limit) _ _ _ _ _ _ _ _ _ _ _ (item_in match.cache None item) _ _ _ c.args.fixed.now todo refl (refl, refl) more (stays.last ∙ last) (stays.found ∙ found) (stays.left ∙ left) c.matches.invariant.goes;
     }
 
 pub matches-smaller : goal.matches-smaller
-matches-smaller c = one_done _ _ _ (rw c.in-Some.is at c.in_ok-next_match.ensures.steps ∙ ap (λ (z : List MatchItem). item_in c.next_match.new.self.cache c.in-Some.field-0 ∷ z) (sym c.in_ok-push.ensures.stays.todo))
+matches-smaller c = one_done _ _ _ (rw c.in-Some.is at c.in_ok-next_match.ensures.steps ∙ ap (λ (z : List MatchItem). item_in c.next_match.new.self.cache None c.in-Some.field-0 ∷ z) (sym c.in_ok-push.ensures.stays.todo))
 
 pub returns : goal.returns
 returns c =

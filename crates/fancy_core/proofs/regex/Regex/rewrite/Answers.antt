@@ -35,19 +35,19 @@ matches-preserved g c =
     let left = rw c.in-Some.is at c.in_ok-item.ensures.left in
     let regex : rewriting_regex match ≡ c.args.self.now = c.in_ok-item.ensures.regex ∙ c.matches.invariant.regex in
     let text : rewriting_text match ≡ c.args.text.now = c.in_ok-item.ensures.text ∙ c.matches.invariant.text in
-    let todo : todo_of before ≡ item_in match.cache item ∷ todo_of after = steps ∙ ap (λ (z : List MatchItem). item_in match.cache item ∷ z) (sym stays.todo) in
-    let part : string_bytes match.out ≡ string_bytes before.out ++ slice_range c.args.text.now before.last (start_of (item_in match.cache item)) = written ∙ ap (λ (z : List ℕ). string_bytes before.out ++ slice_range z before.last item.found.start) c.matches.invariant.text in
-    let more : string_bytes after.out ≡ (string_bytes before.out ++ slice_range c.args.text.now before.last (start_of (item_in match.cache item))) ++ ok.0 = ok.1 ∙ ap (λ (z : List ℕ). z ++ ok.0) part in
+    let todo : todo_of before ≡ item_in match.cache None item ∷ todo_of after = steps ∙ ap (λ (z : List MatchItem). item_in match.cache None item ∷ z) (sym stays.todo) in
+    let part : string_bytes match.out ≡ string_bytes before.out ++ slice_range c.args.text.now before.last (start_of (item_in match.cache None item)) = written ∙ ap (λ (z : List ℕ). string_bytes before.out ++ slice_range z before.last item.found.start) c.matches.invariant.text in
+    let more : string_bytes after.out ≡ (string_bytes before.out ++ slice_range c.args.text.now before.last (start_of (item_in match.cache None item))) ++ ok.0 = ok.1 ∙ ap (λ (z : List ℕ). z ++ ok.0) part in
     record {
       callable = c.in_ok-push_answer.ensures.again;
       regex = stays.regex ∙ regex;
       text = stays.text ∙ text;
       allowed = λ later. c.matches.invariant.allowed ((rw c.in-Some.is at c.in_ok-item.ensures.allowed) (stays.allowed later));
-      goes = goes_on (replacing (λ _. None) g.R.Replacer.appends g.R.Replacer.refuses c.args.self.now c.args.text.now c.args.limit) _ _ _ _ _ _ _ _ _ _ _ (item_in match.cache item) _ _ _ ok.0 todo (seen_same _ _ _ _ (item_in match.cache item) regex text) ok.2 more (stays.last ∙ last) (stays.found ∙ found) (stays.left ∙ left) c.matches.invariant.goes;
+      goes = goes_on (replacing (λ _. None) g.R.Replacer.appends g.R.Replacer.refuses c.args.self.now c.args.text.now c.args.limit) _ _ _ _ _ _ _ _ _ _ _ (item_in match.cache None item) _ _ _ ok.0 todo (seen_same _ _ _ _ (item_in match.cache None item) regex text) ok.2 more (stays.last ∙ last) (stays.found ∙ found) (stays.left ∙ left) c.matches.invariant.goes;
     }
 
 pub matches-smaller : goal.matches-smaller
-matches-smaller g c = one_done _ _ _ (rw c.in-Some.is at c.in_ok-item.ensures.steps ∙ ap (λ (z : List MatchItem). item_in c.next_match.new.self.cache c.in-Some.item ∷ z) (sym c.in_ok-push_answer.ensures.stays.todo))
+matches-smaller g c = one_done _ _ _ (rw c.in-Some.is at c.in_ok-item.ensures.steps ∙ ap (λ (z : List MatchItem). item_in c.next_match.new.self.cache None c.in-Some.item ∷ z) (sym c.in_ok-push_answer.ensures.stays.todo))
 
 pub returns : goal.returns
 returns g c =
@@ -75,7 +75,7 @@ returns-in_err-push_answer-clause-refused g c =
     let q = err_from_is_err_and c.from_residual-in_err-push_answer.result c.from_residual-in_err-push_answer.ensures.1 in
     let before = c.matches.rewriting in
     let match = c.next_match.new.self in
-    let item = item_in match.cache c.in-Some.item in
+    let item = item_in match.cache None c.in-Some.item in
     let regex : rewriting_regex match ≡ c.args.self.now = c.in_ok-item.ensures.regex ∙ c.matches.invariant.regex in
     let text : rewriting_text match ≡ c.args.text.now = c.in_ok-item.ensures.text ∙ c.matches.invariant.text in
     let seen = seen_same (rewriting_regex match) c.args.self.now (rewriting_text match) c.args.text.now item regex text in

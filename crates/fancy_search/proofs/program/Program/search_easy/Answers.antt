@@ -1,16 +1,16 @@
-use Rattle.std.proofs.Common.{◌≡◌, ◌∙◌, Some, refl, ap, arith}
+use Rattle.std.proofs.Common.{◌≡◌, ◌∙◌, Ok, Some, refl, ap, arith}
 use Rattle.std.specs.Box.{with_value}
 use Rattle.std.proofs.lemmas.Result.{err_from_is_err_and}
 use Rattle.fancy_input.specs.Requests.{effective_start}
 use Rattle.fancy_search.specs.declared.cache.Cache.{Cache}
-use Rattle.fancy_search.specs.declared.cache.Engine.TheVariants.{Runner, WithoutGroups}
+use Rattle.fancy_tree.specs.declared.error.Error.{Error}
+use Rattle.fancy_search.specs.declared.cache.Engine.TheVariants.{Runner}
 use Rattle.fancy_search.specs.KeptTables.{KeepsTable, table_kept}
 use Rattle.fancy_search.proofs.KeptTablesLemmas.{if_some_at, found_table, found_steps, steps_hold, found_spent, found_goes_on}
 use Rattle.fancy_runner.proofs.KeptTableLemmas.{again_paid}
 use Rattle.fancy_input.specs.Work.{steps_of}
 use Rattle.fancy_search.specs.SearchCounts.{RefusesEasy}
-use Rattle.fancy_search.proofs.ResultLemmas.{if_ok, if_err}
-use Rattle.fancy_search.proofs.SearchedLemmas.{found_ungrouped}
+use Rattle.fancy_search.proofs.ResultLemmas.{if_any, if_ok, if_err}
 use Rattle.fancy_search.proofs.StraightLemmas.{counts_kept}
 use Rattle.fancy_search.proofs.program.Program.search_easy.Goals as goal
 use Rattle.fancy_search.proofs.program.Program.search_easy.Goals.{else-is_steps-via-else-is_steps, else-is_steps-via-then-is_steps+in-None-1}
@@ -41,6 +41,7 @@ returns-then-allows_all_steps-2-clause-served c =
       | else-is_steps-via-then-is_steps+in-None-1 w ↦ ap (λ (k : Cache). k.machine) w.cache-is
     ] in record {
       answer = if_ok _ _ (λ m is. is c.args.asked.now.continues) c.search_followed-found.result c.search_followed-found.ensures.answer;
+      held = λ asked. c.search_followed-found.ensures.held (c.if-is_followed.ensures.told refl asked);
       counts = c.search_followed-found.ensures.counts;
       idle = c.search_followed-found.ensures.idle c.args.asked.now.continues;
       refused = if_err _ (RefusesEasy c.args.self.now) (λ e memory. rw memory tt) c.search_followed-found.result c.search_followed-found.ensures.refused;
@@ -49,7 +50,8 @@ returns-then-allows_all_steps-2-clause-served c =
 
 pub returns-then-allows_all_steps-clause-served : goal.returns-then-allows_all_steps-clause-served
 returns-then-allows_all_steps-clause-served c = record {
-  answer = if_ok _ _ (λ m is. found_ungrouped c.args.self.now.code m _ (c.args.self.now.alone c.if-self.true) (is c.args.asked.now.continues)) c.follow.result c.follow.ensures.answer;
+  answer = if_ok _ _ (λ m is. c.without_groups-cache.ensures.answer m _ _ _ (is c.args.asked.now.continues)) c.follow.result c.follow.ensures.answer;
+  held = λ asked. if_any _ (λ _. c.without_groups-cache.ensures.held (c.if-is_followed.ensures.told refl asked)) c.follow.result;
   counts = c.follow.ensures.counts;
   idle = c.follow.ensures.idle c.args.asked.now.continues;
   refused = if_err _ (RefusesEasy c.args.self.now) (λ e memory. rw memory tt) c.follow.result c.follow.ensures.refused;
@@ -59,6 +61,7 @@ returns-then-allows_all_steps-clause-served c = record {
 pub returns-clause-served : goal.returns-clause-served
 returns-clause-served c = record {
   answer = c.in_ok-found.ensures.answer c.args.asked.now.continues;
+  held = λ _. if_any {E = Error} _ (λ _. refl) (Ok c.in_ok-found.found);
   counts = c.in_ok-found.ensures.counts;
   idle = c.run.ensures.idle c.args.asked.now.continues;
   refused = tt;
@@ -70,6 +73,7 @@ returns-in_err-found-clause-served c =
     let q = err_from_is_err_and c.from_residual.result c.from_residual.ensures.1 in
     rw (q.1, q.2) record {
       answer = tt;
+      held = λ _. tt;
       counts = c.in_err-found.ensures.counts;
       idle = c.run.ensures.idle c.args.asked.now.continues;
       refused = c.in_err-found.ensures.refused;
@@ -111,13 +115,14 @@ returns-in_err-found-clause-fresh c none =
 pub returns-then-allows_all_steps-clause-kept : goal.returns-then-allows_all_steps-clause-kept
 returns-then-allows_all_steps-clause-kept c =
     if_ok _ _ (λ m _. found_steps c.args.self.now c.args.asked.now.haystack.now
-    (record c.args.cache.now { served = WithoutGroups c.args.self.now.code.groups; steps = Some (with_value c.in-Some.steps c.follow.new.steps) })
+    (record c.args.cache.now { served = c.without_groups-cache.result; steps = Some (with_value c.in-Some.steps c.follow.new.steps) })
     c.args.asked.now.request.now c.follow.new.kept m c.follow.ensures.left (λ _. steps_hold c.args.self.now (with_value c.in-Some.steps c.follow.new.steps) c.follow.ensures.kept))
     c.follow.result c.follow.ensures.answer
 
 pub returns-then-allows_all_steps-2-2-clause-served : goal.returns-then-allows_all_steps-2-2-clause-served
 returns-then-allows_all_steps-2-2-clause-served c = record {
   answer = c.read.ensures.answer c.args.asked.now.continues;
+  held = λ _. if_any {E = Error} _ (λ _. refl) (Ok c.read.result);
   counts = counts_kept c.args.self.now c.args.asked.now.request.now c.read.result _ _ c.requires.room (c.if-allows_all_steps-2.ensures refl) c.read.ensures.counts;
   idle = c.read.ensures.idle c.args.asked.now.continues;
   refused = tt;

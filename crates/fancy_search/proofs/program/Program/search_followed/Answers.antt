@@ -1,10 +1,10 @@
-use Rattle.std.proofs.Common.{◌≡◌, ◌∙◌, Bool, ap, refl, sym}
+use Rattle.std.proofs.Common.{◌≡◌, ◌∙◌, Bool, ap, refl, subst, sym}
 use Rattle.fancy_input.specs.Work.{steps_of}
 use Rattle.fancy_meaning.specs.Search.{search}
+use Rattle.fancy_states.specs.Search.{IsFoundAs}
 use Rattle.fancy_search.specs.KeptTables.{HoldsSteps}
 use Rattle.fancy_search.specs.Programs.{asked_of}
 use Rattle.fancy_search.proofs.ResultLemmas.{if_ok}
-use Rattle.fancy_search.proofs.SearchedLemmas.{found_ungrouped}
 use Rattle.fancy_search.proofs.program.Program.search_followed.Goals as goal
 use Rattle.fancy_search.proofs.program.Program.search_followed.Goals.{in-Some+in_ok-found+in-Left, in_default}
 
@@ -24,7 +24,7 @@ returns-clause-answer c =
       | in-Some+in_ok-found+in-Left w ↦ rw w.request-is ((rw w.in-Left.is at w.in_ok-found.ensures.begun).same on on)
       | in_default w ↦ rw w.request-is refl
     ] in
-    if_ok _ _ (λ m is on. found_ungrouped c.args.self.now.code m _ c.requires.whole (is on) ∙ same on) c.follow-found.result c.follow-found.ensures.answer
+    if_ok _ _ (λ m is on. c.without_groups-cache.ensures.answer m _ _ _ (subst (IsFoundAs c.args.self.now.code m) (same on) (is on))) c.follow-found.result c.follow-found.ensures.answer
 
 pub returns-clause-idle : goal.returns-clause-idle
 returns-clause-idle c on none =

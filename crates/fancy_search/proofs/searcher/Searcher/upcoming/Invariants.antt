@@ -11,6 +11,7 @@ invariant-searches g l = record {
   request : l.self.request ≡ record l.fn.self.request { start = l.self.request.start };
   later : l.fn.self.request.start ≤ l.self.request.start;
   running : l.self.ended ≡ l.fn.self.ended;
+  groups : l.self.groups ≡ l.fn.self.groups;
   kept : KeepsFrom g.S.Haystack.bytes l.program l.self l.cache (effective_start l.self.request);
   value : item_next g.S.Haystack.text g.S.Haystack.bytes l.program l.self ≡ item_next g.S.Haystack.text g.S.Haystack.bytes l.program l.fn.self;
   start : start_next g.S.Haystack.text g.S.Haystack.bytes l.program l.self ≡ start_next g.S.Haystack.text g.S.Haystack.bytes l.program l.fn.self;
