@@ -8,3 +8,4 @@ pub mod SoleLemmas
 pub mod DecidedLemmas
 pub mod WalkLemmas
 pub mod ToldLemmas
+pub mod EndLemmas

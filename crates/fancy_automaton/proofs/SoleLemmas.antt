@@ -1,5 +1,5 @@
 -- Steps of a search whose ways that wait all began at one place.
-use Rattle.std.proofs.Common.{◌≡◌, ℕ, zero, suc, ◌+◌, ◌-◌, ◌<◌, inl, inr, ◌++◌, ◌∷◌, [], Bool, true, List, Option, Some, None, refl, sym, ap, ap₂, ◌∙◌, subst, arith, length, map, replicate, take, length-append, option_map}
+use Rattle.std.proofs.Common.{◌≡◌, ℕ, zero, suc, ◌+◌, ◌-◌, ◌<◌, ◌≤◌, inl, inr, ◌++◌, ◌∷◌, [], Bool, true, List, Option, Some, None, refl, sym, ap, ap₂, ◌∙◌, subst, arith, length, map, replicate, take, length-append, option_map}
 use Rattle.std.specs.Prelude.{slice_get, slice_index, nat_eq, nat_lt, is_some, IfSome}
 use Rattle.std.specs.List.{list_all}
 use Rattle.std.specs.Option.{option_or}
@@ -26,10 +26,11 @@ use Rattle.fancy_states.specs.Cells.{HasRow, HasRows, IsCell, IsIdle, KeepsHoldi
 use Rattle.fancy_automaton.specs.Front.{IsFront, Stands, front_at, found_of, starts_of, ways_of}
 use Rattle.fancy_states.specs.Origins.{ComeFrom}
 use Rattle.fancy_states.specs.Search.{Going, begun_if, found_or}
-use Rattle.fancy_automaton.specs.Sole.{IsAmid, IsAt, IsSole, stood}
+use Rattle.fancy_automaton.specs.Sole.{ComeFromFirst, IsAmid, IsAt, IsLed, IsLedOn, IsSole, KeepsFirst, StartsWith, stood}
 use Rattle.fancy_states.specs.Trail.{match_from}
 use Rattle.fancy_states.specs.Trail.{AllVisited, HitIn, found_at, known_hit, starts_after}
-use Rattle.fancy_automaton.specs.declared.follow.Sole.{Sole}
+use Rattle.fancy_automaton.specs.declared.amid.Amid.{Amid}
+use Rattle.fancy_automaton.specs.declared.sole.Sole.{Sole}
 use Rattle.fancy_automaton.specs.declared.front.Front.{Front}
 use Rattle.fancy_states.specs.declared.trail.Hit.{Hit}
 use Rattle.fancy_states.specs.declared.trail.Visit.{Visit}
@@ -44,9 +45,10 @@ use Rattle.fancy_states.proofs.SearchLemmas.{no_items}
 use Rattle.fancy_states.proofs.StepLemmas.{step_alike}
 
 -- The ways after a step, and where the search stands then.
-pub record Stepped (a : Attempt) (cells : Cells) (at : Stand) (ways starts : List ℕ) (found after : Option Span) (past : ℕ) (t : Transition) (matched : Option ℕ) : Type 0 where
+pub record Stepped (a : Attempt) (cells : Cells) (at : Stand) (ways starts : List ℕ) (found after : Option Span) (past : ℕ) (t : Transition) (d : Cell) : Type 0 where
   pub next : List Way
-  pub come : ComeFrom t.origin (length (begun_if found ways a.code.now.start)) (map from_of next) matched
+  pub came : d.came.items ≡ map from_of next
+  pub come : ComeFrom t.origin (length (begun_if found ways a.code.now.start)) (map from_of next) d.matched
   pub stands : IsAt a cells (stood past t) (map at_of next) (map (start_in (begun_if found starts at.place)) next) after
 
 -- a step that the table tells
@@ -76,7 +78,7 @@ module _ (a : Attempt) (cells : Cells) (at : Stand) (ways starts : List ℕ) (fo
       (subst (λ (ws : List ℕ). ComeFrom d.origin (length ws) d.came.items d.matched) same own.comes_from))
 
   pub stepped : (after : Option Span) → ((rest : Option (ℕ × ℕ)) → found_or after rest ≡ option_or (span_by (begun_if found starts at.place) (match_end d.matched at.place)) (found_or found rest))
-      → Stepped a cells at ways starts found after past t d.matched
+      → Stepped a cells at ways starts found after past t d
   stepped after hits =
       let rows = cells.rows.lists.items in
       let p = at.place in
@@ -86,6 +88,7 @@ module _ (a : Attempt) (cells : Cells) (at : Stand) (ways starts : List ℕ) (fo
       let moved = going_step a is.followed.steady is.followed.plain ways starts found after p like.whole own.after d.matched is.within is.good like.seen step (λ none. own.halts (like.ends none)) hits is.going in
       record {
         next = own.after;
+        came = own.comes;
         come = comes;
         stands = record {
           followed = is.followed;
@@ -101,10 +104,10 @@ module _ (a : Attempt) (cells : Cells) (at : Stand) (ways starts : List ℕ) (fo
         };
       }
 
-  pub quiet : d.matched ≡ None → Stepped a cells at ways starts found found past t d.matched
+  pub quiet : d.matched ≡ None → Stepped a cells at ways starts found found past t d
   quiet none = stepped found (λ rest. ap (λ (o : Option ℕ). option_or (span_by (begun_if found starts at.place) (match_end o at.place)) (found_or found rest)) (sym none))
 
-  pub matching : (f s : ℕ) → d.matched ≡ Some f → slice_index (begun_if found starts at.place) f ≡ s → Stepped a cells at ways starts found (Some (record { start = s; end = at.place })) past t d.matched
+  pub matching : (f s : ℕ) → d.matched ≡ Some f → slice_index (begun_if found starts at.place) f ≡ s → Stepped a cells at ways starts found (Some (record { start = s; end = at.place })) past t d
   matching f s some began =
       stepped (Some (record { start = s; end = at.place })) (λ rest. ap (λ (x : ℕ). Some (x, at.place)) (sym began)
       ∙ ap (λ (o : Option ℕ). option_or (span_by (begun_if found starts at.place) (match_end o at.place)) (found_or found rest)) (sym some))
@@ -150,7 +153,7 @@ began_at_one starts s test (w ∷ ws) tells all =
     let parts = and_parts (test w.from) (list_all test (map from_of ws)) all in
     ap₂ (λ (x : ℕ) (xs : List ℕ). x ∷ xs) (tells w.from parts.0) (began_at_one starts s test ws tells parts.1)
 
-index_one : (n s f : ℕ) → f < n → slice_index (replicate n s) f ≡ s
+pub index_one : (n s f : ℕ) → f < n → slice_index (replicate n s) f ≡ s
 index_one zero s f lt = absurd (omega (arith, lt))
 index_one (suc n) s zero lt = refl
 index_one (suc n) s (suc f) lt = index_one n s f (omega (arith, lt))
@@ -180,22 +183,22 @@ last_began ways starts start p f even e =
     index_last starts p f (omega (arith, even, e, more))
 
 -- what all ways began at, and a match that is found
-module _ (a : Attempt) (cells : Cells) (at : Stand) (ways : List ℕ) (s : ℕ) (after : Option Span) (past : ℕ) (t : Transition) (matched : Option ℕ) where
+module _ (a : Attempt) (cells : Cells) (at : Stand) (ways : List ℕ) (s : ℕ) (after : Option Span) (past : ℕ) (t : Transition) (d : Cell) where
   abbrev Sole_at : ℕ → Type 0
   Sole_at p = (next : List ℕ) × IsAt a cells (stood past t) next (replicate (length next) p) after
 
-  pub keeps_start : Stepped a cells at ways (replicate (length ways) s) None after past t matched → t.origin ≡ Earlier → Sole_at s
+  pub keeps_start : Stepped a cells at ways (replicate (length ways) s) None after past t d → t.origin ≡ Earlier → Sole_at s
   keeps_start st e =
-      let come : ComeFrom Earlier (length (ways ++ a.code.now.start ∷ [])) (map from_of st.next) matched = subst (λ (o : Origin). ComeFrom o (length (ways ++ a.code.now.start ∷ [])) (map from_of st.next) matched) e st.come in (
+      let come : ComeFrom Earlier (length (ways ++ a.code.now.start ∷ [])) (map from_of st.next) d.matched = subst (λ (o : Origin). ComeFrom o (length (ways ++ a.code.now.start ∷ [])) (map from_of st.next) d.matched) e st.come in (
         map at_of st.next,
         subst (λ (ss : List ℕ). IsAt a cells (stood past t) (map at_of st.next) ss after)
             (began_at_one (replicate (length ways) s ++ at.place ∷ []) s (λ f. nat_lt f (length (ways ++ a.code.now.start ∷ []) - 1)) st.next
             (λ f lt. earlier_began ways a.code.now.start s at.place f (below f _ lt)) come.0) st.stands,
       )
 
-  pub starts_here : (starts : List ℕ) → length starts ≡ length ways → Stepped a cells at ways starts None after past t matched → t.origin ≡ Last → Sole_at at.place
+  pub starts_here : (starts : List ℕ) → length starts ≡ length ways → Stepped a cells at ways starts None after past t d → t.origin ≡ Last → Sole_at at.place
   starts_here starts even st e =
-      let come : ComeFrom Last (length (ways ++ a.code.now.start ∷ [])) (map from_of st.next) matched = subst (λ (o : Origin). ComeFrom o (length (ways ++ a.code.now.start ∷ [])) (map from_of st.next) matched) e st.come in (
+      let come : ComeFrom Last (length (ways ++ a.code.now.start ∷ [])) (map from_of st.next) d.matched = subst (λ (o : Origin). ComeFrom o (length (ways ++ a.code.now.start ∷ [])) (map from_of st.next) d.matched) e st.come in (
         map at_of st.next,
         subst (λ (ss : List ℕ). IsAt a cells (stood past t) (map at_of st.next) ss after)
             (began_at_one (starts ++ at.place ∷ []) at.place (λ f. nat_eq f (length (ways ++ a.code.now.start ∷ []) - 1)) st.next
@@ -213,6 +216,35 @@ pub some_of : (o : Option ℕ) → is_some o ≡ true → (f : ℕ) × (o ≡ So
 some_of None e = absurd (cc)
 some_of (Some f) e = (f, refl)
 
+-- where one of the first ways began
+led_index : (k s : ℕ) (rest : List ℕ) (p f : ℕ) → f < k → slice_index ((replicate k s ++ rest) ++ p ∷ []) f ≡ s
+led_index zero s rest p f lt = absurd (omega (arith, lt))
+led_index (suc k) s rest p zero lt = refl
+led_index (suc k) s rest p (suc f) lt = led_index k s rest p f (omega (arith, lt))
+
+led_began : (starts : List ℕ) (k s p f : ℕ) → StartsWith starts k s → f < k → slice_index (starts ++ p ∷ []) f ≡ s
+led_began starts k s p f leads lt = ap (λ (xs : List ℕ). slice_index (xs ++ p ∷ []) f) leads.1 ∙ led_index k s leads.0 p f lt
+
+-- all ways come from the first ones
+led_first : (a : Attempt) (cells : Cells) (at : Stand) (ways starts : List ℕ) (after : Option Span) (past : ℕ) (t : Transition) (d : Cell) (k s : ℕ)
+    → StartsWith starts k s → ComeFromFirst k d.came.items d.matched → Stepped a cells at ways starts None after past t d
+    → (next : List ℕ) × IsAt a cells (stood past t) next (replicate (length next) s) after
+led_first a cells at ways starts after past t d k s leads come st =
+    let all = subst (λ (xs : List ℕ). list_all (λ f. nat_lt f k) xs ≡ true) st.came come.0 in (
+      map at_of st.next,
+      subst (λ (ss : List ℕ). IsAt a cells (stood past t) (map at_of st.next) ss after)
+          (began_at_one (starts ++ at.place ∷ []) s (λ f. nat_lt f k) st.next (λ f lt. led_began starts k s at.place f leads (below f k lt)) all) st.stands,
+    )
+
+-- some of the first ways come from the first ones
+first_kept : (starts : List ℕ) (k s p : ℕ) → StartsWith starts k s → (n : ℕ) (next : List Way) → n ≤ length (map from_of next)
+    → ((i : ℕ) → i < n → slice_index (map from_of next) i < k) → StartsWith (map (start_in (starts ++ p ∷ [])) next) n s
+first_kept starts k s p leads zero next low come = (map (start_in (starts ++ p ∷ [])) next, refl)
+first_kept starts k s p leads (suc n) [] low come = absurd (omega (arith, low))
+first_kept starts k s p leads (suc n) (w ∷ ws) low come =
+    let rest = first_kept starts k s p leads n ws (omega (arith, low)) (λ i lt. come (suc i) (omega (arith, lt))) in
+    (rest.0, ap₂ (λ (x : ℕ) (xs : List ℕ). x ∷ xs) (led_began starts k s p w.from leads (come 0 (omega arith))) rest.1)
+
 module _ (a : Attempt) (cells : Cells) (at : Stand) (past : ℕ) (asked : Sight) (t : Transition) (sees : Sees a cells.table.classes at.place past asked) where
   -- the step from a row on what is read there
   abbrev pub Tells : ℕ → (List Cell → Transition → Type 0) → Type 0
@@ -223,7 +255,7 @@ module _ (a : Attempt) (cells : Cells) (at : Stand) (past : ℕ) (asked : Sight)
       → t.origin ≡ Earlier → (next : List ℕ) × IsAt a cells (stood past t) next (replicate (length next) s) None
   quiet_earlier ways s is told e =
       let there = cell_there cells.cells.items t.cell told.0.stands in
-      keeps_start a cells at ways s None past t there.0.matched
+      keeps_start a cells at ways s None past t there.0
       (quiet a cells at ways (replicate (length ways) s) None at.begun past asked t there.0 sees is refl told.0 there.1 (told.1 there.0 there.1)) e
 
   -- or from the one that began
@@ -231,7 +263,7 @@ module _ (a : Attempt) (cells : Cells) (at : Stand) (past : ℕ) (asked : Sight)
       → t.origin ≡ Last → (next : List ℕ) × IsAt a cells (stood past t) next (replicate (length next) at.place) None
   quiet_last ways starts is told e =
       let there = cell_there cells.cells.items t.cell told.0.stands in
-      starts_here a cells at ways 0 None past t there.0.matched starts is.going.even
+      starts_here a cells at ways 0 None past t there.0 starts is.going.even
       (quiet a cells at ways starts None at.begun past asked t there.0 sees is refl told.0 there.1 (told.1 there.0 there.1)) e
 
   -- or from both
@@ -240,6 +272,42 @@ module _ (a : Attempt) (cells : Cells) (at : Stand) (past : ℕ) (asked : Sight)
       let there = cell_there cells.cells.items t.cell told.0.stands in
       let st = quiet a cells at ways starts None at.begun past asked t there.0 sees is refl told.0 there.1 (told.1 there.0 there.1) in
       (map at_of st.next, map (start_in (starts ++ at.place ∷ [])) st.next, st.stands)
+
+  -- some of the first ways come from the first ones
+  pub quiet_led : (m : Amid) (led : ℕ) → IsLed a cells m → m.stand ≡ at → Tells at.begun IsQuiet → KeepsFirst cells m t led
+      → IsLed a cells (record { stand = stood past t; start = m.start; led = led })
+  quiet_led m led is same told keeps =
+      let there = cell_there cells.cells.items t.cell told.0.stands in
+      let here = subst (λ (st : Stand). IsAt a cells st is.ways is.starts None) same is.here in
+      let st = quiet a cells at is.ways is.starts None at.begun past asked t there.0 sees here refl told.0 there.1 (told.1 there.0 there.1) in
+      let kept = subst (λ (came : List ℕ). (led ≤ length came) × ((i : ℕ) → i < led → slice_index came i < m.led)) st.came (keeps there.0 there.1) in
+      record {
+        ways = map at_of st.next;
+        starts = map (start_in (is.starts ++ at.place ∷ [])) st.next;
+        here = st.stands;
+        leads = first_kept is.starts m.led m.start at.place is.leads led st.next kept.0 kept.1;
+      }
+
+  -- all ways come from the first ones, and so does a match that is found
+  pub led_quiet : (m : Amid) → IsLed a cells m → m.stand ≡ at → Tells at.begun IsQuiet → IsLedOn cells m t
+      → (next : List ℕ) × IsAt a cells (stood past t) next (replicate (length next) m.start) None
+  led_quiet m led same told on =
+      let there = cell_there cells.cells.items t.cell told.0.stands in
+      let is = subst (λ (st : Stand). IsAt a cells st led.ways led.starts None) same led.here in
+      led_first a cells at led.ways led.starts None past t there.0 m.led m.start led.leads (on there.0 there.1)
+      (quiet a cells at led.ways led.starts None at.begun past asked t there.0 sees is refl told.0 there.1 (told.1 there.0 there.1))
+
+  pub led_found : (m : Amid) → IsLed a cells m → m.stand ≡ at → Tells at.begun IsMatching → IsLedOn cells m t
+      → (next : List ℕ) × IsAt a cells (stood past t) next (replicate (length next) m.start) (Some (record { start = m.start; end = at.place }))
+  led_found m led same told on =
+      let there = cell_there cells.cells.items t.cell told.0.stands in
+      let is = subst (λ (st : Stand). IsAt a cells st led.ways led.starts None) same led.here in
+      let come = on there.0 there.1 in
+      let some = some_of there.0.matched (told.1 there.0 there.1) in
+      let low : some.0 < m.led = subst (λ (o : Option ℕ). IfSome o (λ f. f < m.led)) some.1 come.1 in
+      led_first a cells at led.ways led.starts (Some (record { start = m.start; end = at.place })) past t there.0 m.led m.start led.leads come
+      (matching a cells at led.ways led.starts None at.begun past asked t there.0 sees is refl told.0 there.1 some.0 m.start some.1
+      (led_began led.starts m.led m.start at.place some.0 led.leads low))
 
   -- a match is found
   pub found_earlier : (ways : List ℕ) (s : ℕ) → IsAt a cells at ways (replicate (length ways) s) None → Tells at.begun IsMatching
@@ -250,7 +318,7 @@ module _ (a : Attempt) (cells : Cells) (at : Stand) (past : ℕ) (asked : Sight)
       let starts = replicate (length ways) s in
       let come = subst (λ (o : Option ℕ). IfSome o (λ f. f < length (ways ++ a.code.now.start ∷ []) - 1)) some.1
       (earlier_found a cells at ways starts None at.begun past asked t there.0 sees is refl told.0 there.1 e) in
-      keeps_start a cells at ways s (Some (record { start = s; end = at.place })) past t there.0.matched
+      keeps_start a cells at ways s (Some (record { start = s; end = at.place })) past t there.0
       (matching a cells at ways starts None at.begun past asked t there.0 sees is refl told.0 there.1 some.0 s some.1
       (earlier_began ways a.code.now.start s at.place some.0 come)) e
 
@@ -261,7 +329,7 @@ module _ (a : Attempt) (cells : Cells) (at : Stand) (past : ℕ) (asked : Sight)
       let some = some_of there.0.matched (told.1 there.0 there.1) in
       let come = subst (λ (o : Option ℕ). IfSome o (λ f. f ≡ length (ways ++ a.code.now.start ∷ []) - 1)) some.1
       (last_found a cells at ways starts None at.begun past asked t there.0 sees is refl told.0 there.1 e) in
-      starts_here a cells at ways 0 (Some (record { start = at.place; end = at.place })) past t there.0.matched starts is.going.even
+      starts_here a cells at ways 0 (Some (record { start = at.place; end = at.place })) past t there.0 starts is.going.even
       (matching a cells at ways starts None at.begun past asked t there.0 sees is refl told.0 there.1 some.0 at.place some.1
       (last_began ways starts a.code.now.start at.place some.0 is.going.even come)) e
 
@@ -275,6 +343,22 @@ idle_sole a cells at idle start empty same is =
     let none : ways ≡ [] = sym here.waits.2 ∙ empty v (ap (slice_get cells.rows.lists.items) (sym same) ∙ here.waits.1) in
     let nothing : is.1 ≡ [] = no_items is.1 (here.going.even ∙ ap length none) in
     (ways, subst (λ (ss : List ℕ). IsAt a cells at ways ss None) (nothing ∙ sym (ap (λ (ws : List ℕ). replicate (length ws) start) none)) here)
+
+append_none : (xs : List ℕ) → xs ≡ xs ++ []
+append_none [] = refl
+append_none (x ∷ xs) = ap (λ (ys : List ℕ). x ∷ ys) (append_none xs)
+
+-- where all ways began at one place, the first ones did
+pub sole_led : (a : Attempt) (cells : Cells) (s : Sole) (led : ℕ) → IsSole a cells s → s.end ≡ None
+    → led ≡ length (ways_at cells.rows.lists.items s.stand.next) → IsLed a cells (record { stand = s.stand; start = s.start; led = led })
+sole_led a cells s led is nothing all =
+    let same = all ∙ ap length (row_ways cells.rows.lists.items s.stand.next is.0 is.1.waits) in
+    record {
+      ways = is.0;
+      starts = replicate (length is.0) s.start;
+      here = subst (λ (o : Option ℕ). IsAt a cells s.stand is.0 (replicate (length is.0) s.start) (match_from s.start o)) nothing is.1;
+      leads = ([], ap (λ (n : ℕ). replicate n s.start) (sym same) ∙ append_none (replicate led s.start));
+    }
 
 -- no way waits at a place, and nothing was found
 pub idle_rows : (a : Attempt) (cells : Cells) (at : Stand) (idle : ℕ) → IsIdle cells.rows.lists.items idle → at.next ≡ idle → IsAmid a cells at

@@ -1,5 +1,5 @@
 -- The walk by the table where no way begins any more, and the search around it.
-use Rattle.std.proofs.Common.{◌≡◌, ℕ, ◌+◌, ◌-◌, ◌<◌, ◌≤◌, ◌≢◌, ◌++◌, ◌∷◌, [], inl, inr, Bool, true, List, Option, Some, None, refl, sym, ap, ◌∙◌, subst, arith, length, replicate}
+use Rattle.std.proofs.Common.{◌≡◌, ℕ, ◌<◌, ◌≤◌, ◌≢◌, ◌++◌, ◌∷◌, [], inl, inr, Bool, true, List, Option, Some, None, refl, sym, ap, ◌∙◌, subst, arith, length, replicate}
 use Rattle.std.specs.Prelude.{slice_get, is_some, option_map, min, if◌then◌else◌}
 use Rattle.std.specs.Option.{option_or}
 use Rattle.std.proofs.lemmas.List.{length-replicate}
@@ -12,13 +12,13 @@ use Rattle.fancy_meaning.specs.Reading.{unit_read}
 use Rattle.fancy_alphabet.specs.declared.sight.Sight.{Sight}
 use Rattle.fancy_states.specs.declared.cells.Cell.{Cell}
 use Rattle.fancy_states.specs.declared.cells.Cells.{Cells}
-use Rattle.fancy_automaton.specs.declared.follow.Sole.{Sole}
+use Rattle.fancy_automaton.specs.declared.sole.Sole.{Sole}
 use Rattle.fancy_automaton.specs.declared.hop.Stand.{Stand}
 use Rattle.fancy_states.specs.declared.transitions.Transition.{Transition}
 use Rattle.fancy_states.specs.Cells.{HasRow, HoldsFor, ways_at}
-use Rattle.fancy_automaton.specs.Decided.{Decided, Goal, IsDecided, IsPlaced, Opens, Rests, attempt_goal, later_end}
+use Rattle.fancy_automaton.specs.Decided.{Decided, Goal, IsDecided, IsPlaced, Opens, Rests, attempt_goal, later_end, search_goal}
 use Rattle.fancy_states.specs.Futures.{end_at, start_end}
-use Rattle.fancy_states.specs.Search.{BegunIn, Going, IsFollowed, Passes, ends_in, leftmost_in}
+use Rattle.fancy_states.specs.Search.{BegunIn, Going, IsFollowed, Passes, ends_in}
 use Rattle.fancy_automaton.specs.Sole.{IsSole, stood}
 use Rattle.fancy_states.specs.Trail.{match_from}
 use Rattle.fancy_states.specs.Steps.{first_tagged_end}
@@ -77,10 +77,6 @@ module _ (a : Attempt) (cells : Cells) (at : Stand) (past : ℕ) (asked : Sight)
       let some = some_of there.0.matched (told.1 there.0 there.1) in
       walked told.0 there.0 there.1 end (Some at.place) (sym (ap (λ (o : Option ℕ). later_end o end at.place) some.1))
 
--- the leftmost match
-abbrev pub found_goal : Attempt → Goal
-found_goal a deep = leftmost_in a deep (a.last + 1 - a.base) a.base
-
 -- what was found, or a match before it, begins where all ways began
 found_tells : (a : Attempt) (deep start : ℕ) (ways : List ℕ) (place e : ℕ) (goal : Option (ℕ × ℕ))
     → option_or (first_tagged_end (end_at (may_end_in a) (context_in a) a.last (instrs_in a) deep place) ways (replicate (length ways) start)) (Some (start, e)) ≡ goal
@@ -92,15 +88,15 @@ found_tells a deep start ways place e goal answer =
     ∙ sym (retag_or start first (Some (start, e))) ∙ ap (retag start) answer ∙ retag_end start goal
 
 found_decided : (a : Attempt) (start : ℕ) (ways : List ℕ) (end : Option ℕ) (place : ℕ) → is_some end ≡ true
-    → Going a ways (replicate (length ways) start) (match_from start end) place place → Decided a (found_goal a) start ways end place
+    → Going a ways (replicate (length ways) start) (match_from start end) place place → Decided a (search_goal a) start ways end place
 found_decided a start ways None place some g = absurd (cc)
 found_decided a start ways (Some e) place some g = record {
   under = λ deep begun. g.under deep begun;
-  tells = λ deep begun. (end_in (found_goal a deep), found_tells a deep start ways place e (found_goal a deep) (g.under deep begun).answer);
+  tells = λ deep begun. (end_in (search_goal a deep), found_tells a deep start ways place e (search_goal a deep) (g.under deep begun).answer);
 }
 
 found_going : (a : Attempt) (start : ℕ) (ways : List ℕ) (end : Option ℕ) (place : ℕ) → is_some end ≡ true → may_end_in a place ≡ true → place ≤ a.last
-    → Decided a (found_goal a) start ways end place → Going a ways (replicate (length ways) start) (match_from start end) place place
+    → Decided a (search_goal a) start ways end place → Going a ways (replicate (length ways) start) (match_from start end) place place
 found_going a start ways None place some good within d = absurd (cc)
 found_going a start ways (Some e) place some good within d = record {
   under = λ deep begun. d.under deep begun;
@@ -127,13 +123,13 @@ module _ (a : Attempt) (cells : Cells) (s : Sole) (is : IsSole a cells s) where
   sole_opens = subst (λ (ws : List ℕ). HasRow cells.rows.lists.items s.stand.begun (ws ++ a.code.now.start ∷ [])) same_ways is.1.opens
 
   -- after a match was found the place is decided where it begins
-  pub sole_decided : is_some s.end ≡ true → IsDecided a cells (found_goal a) s
+  pub sole_decided : is_some s.end ≡ true → IsDecided a cells (search_goal a) s
   sole_decided some =
-      subst (λ (ws : List ℕ). Decided a (found_goal a) s.start ws s.end s.stand.place) same_ways (found_decided a s.start is.0 s.end s.stand.place some is.1.going)
+      subst (λ (ws : List ℕ). Decided a (search_goal a) s.start ws s.end s.stand.place) same_ways (found_decided a s.start is.0 s.end s.stand.place some is.1.going)
 
 -- and so the search stands where the walk ended
 pub decided_sole : (a : Attempt) (cells : Cells) (s : Sole) → IsFollowed a → HoldsFor cells a.code.now → s.stand.next < length cells.rows.lists.items → IsPlaced a cells s.stand
-    → Opens a cells s.stand → is_some s.end ≡ true → IsDecided a cells (found_goal a) s → IsSole a cells s
+    → Opens a cells s.stand → is_some s.end ≡ true → IsDecided a cells (search_goal a) s → IsSole a cells s
 decided_sole a cells s followed holds low placed opens some d =
     let ways = ways_at cells.rows.lists.items s.stand.next in (
       ways,

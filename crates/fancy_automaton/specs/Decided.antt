@@ -1,18 +1,27 @@
 -- A walk in which no way begins any more: the match that is looked for begins at one place, if there is one.
-use Rattle.std.specs.Prelude.{◌≡◌, ◌≤◌, ◌<◌, ◌⊎◌, ℕ, true, List, [], ◌∷◌, ◌++◌, Option, None, Some, length, replicate}
+use Rattle.std.specs.Prelude.{◌≡◌, ◌+◌, ◌-◌, ◌≤◌, ◌<◌, ◌⊎◌, ℕ, true, List, [], ◌∷◌, ◌++◌, Option, None, Some, length, option_map, replicate}
+use Rattle.fancy_input.specs.declared.span.Span.{Span}
 use Rattle.fancy_code.specs.declared.attempt.Attempt.{Attempt}
 use Rattle.fancy_code.specs.Attempt.{context_in, instrs_in, may_end_in}
 use Rattle.fancy_alphabet.specs.Classes.{IsStart}
 use Rattle.fancy_states.specs.declared.cells.Cells.{Cells}
-use Rattle.fancy_automaton.specs.declared.follow.Sole.{Sole}
+use Rattle.fancy_automaton.specs.declared.sole.Sole.{Sole}
 use Rattle.fancy_automaton.specs.declared.hop.Stand.{Stand}
 use Rattle.fancy_states.specs.Cells.{HasRow, ways_at}
-use Rattle.fancy_states.specs.Search.{BegunIn, Under, leftmost_in}
+use Rattle.fancy_states.specs.Search.{BegunIn, Under, ends_in, leftmost_in}
 use Rattle.fancy_states.specs.Ways.{tagged}
 
 -- where the match begins and ends that is looked for, if there is one, by how deep the code is run
 abbrev pub Goal : Type 0
 Goal = ℕ → Option (ℕ × ℕ)
+
+-- it is that match, if there is one
+abbrev pub IsGoal : Attempt → Goal → Option Span → Type 0
+IsGoal a goal found = (deep : ℕ) → BegunIn a deep → option_map ends_in found ≡ goal deep
+
+-- the leftmost match
+abbrev pub search_goal : Attempt → Goal
+search_goal a deep = leftmost_in a deep (a.last + 1 - a.base) a.base
 
 -- the match of the attempt at the first place alone
 abbrev pub attempt_goal : Attempt → Goal

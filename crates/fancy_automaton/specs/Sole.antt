@@ -1,12 +1,16 @@
 -- A search whose ways that wait all began at one place.
-use Rattle.std.specs.Prelude.{◌≡◌, ◌≤◌, ℕ, true, List, ◌∷◌, ◌++◌, [], Option, None, Some, length, replicate}
+use Rattle.std.specs.Prelude.{◌≡◌, ◌<◌, ◌≤◌, ◌⊎◌, ℕ, true, List, ◌∷◌, ◌++◌, [], Option, None, Some, IfSome, length, nat_lt, replicate, slice_get, slice_index}
+use Rattle.std.specs.List.{list_all}
 use Rattle.fancy_input.specs.declared.span.Span.{Span}
 use Rattle.fancy_code.specs.declared.attempt.Attempt.{Attempt}
 use Rattle.fancy_code.specs.Attempt.{context_in, may_end_in}
 use Rattle.fancy_alphabet.specs.Classes.{IsStart}
+use Rattle.fancy_states.specs.declared.cells.Cell.{Cell}
 use Rattle.fancy_states.specs.declared.cells.Cells.{Cells}
-use Rattle.fancy_automaton.specs.declared.follow.Sole.{Sole}
+use Rattle.fancy_automaton.specs.declared.amid.Amid.{Amid}
+use Rattle.fancy_automaton.specs.declared.sole.Sole.{Sole}
 use Rattle.fancy_automaton.specs.declared.hop.Stand.{Stand}
+use Rattle.fancy_states.specs.declared.origin.Origin.TheVariants.{Last}
 use Rattle.fancy_states.specs.declared.transitions.Transition.{Transition}
 use Rattle.fancy_states.specs.Trail.{match_from}
 use Rattle.fancy_states.specs.Cells.{IsBounded, IsFor, HasRow}
@@ -40,6 +44,35 @@ pub record IsAt (a : Attempt) (cells : Cells) (at : Stand) (ways starts : List �
 -- nothing was found, and wherever the ways began
 abbrev pub IsAmid : Attempt → Cells → Stand → Type 0
 IsAmid a cells at = (ways : List ℕ) × (starts : List ℕ) × IsAt a cells at ways starts None
+
+-- so many of the first ways began there
+abbrev pub StartsWith : List ℕ → ℕ → ℕ → Type 0
+StartsWith starts led s = (rest : List ℕ) × (starts ≡ replicate led s ++ rest)
+
+-- nothing was found, and the first ways began there, so many of them
+pub record IsLed (a : Attempt) (cells : Cells) (m : Amid) : Type 0 where
+  pub ways : List ℕ
+  pub starts : List ℕ
+  pub here : IsAt a cells m.stand ways starts None
+  pub leads : StartsWith starts m.led m.start
+
+-- the ways after a step come from the first ones of its row, and so does the match, if one is found
+abbrev pub ComeFromFirst : ℕ → List ℕ → Option ℕ → Type 0
+ComeFromFirst led came matched = (list_all (λ f. nat_lt f led) came ≡ true) × IfSome matched (λ f. f < led)
+
+-- so it is with the step of the table
+abbrev pub IsLedOn : Cells → Amid → Transition → Type 0
+IsLedOn cells m t = (d : Cell) → slice_get cells.cells.items t.cell ≡ Some d → ComeFromFirst m.led d.came.items d.matched
+
+-- so many of the first ways after the step come from the first ones
+abbrev pub KeepsFirst : Cells → Amid → Transition → ℕ → Type 0
+KeepsFirst cells m t led =
+    (d : Cell) → slice_get cells.cells.items t.cell ≡ Some d → (led ≤ length d.came.items) × ((i : ℕ) → i < led → slice_index d.came.items i < m.led)
+
+-- The ways that a step leads to in which nothing is found began there: none waits, they come from the way that begins there, or from the
+-- first ones.
+abbrev pub TellsStart : Cells → ℕ → Amid → Transition → ℕ → Type 0
+TellsStart cells idle m t s = (t.next ≡ idle) ⊎ ((t.origin ≡ Last) × (s ≡ m.stand.place)) ⊎ ((s ≡ m.start) × IsLedOn cells m t)
 
 -- all ways began at one place, and so did the match, if one was found
 abbrev pub IsSole : Attempt → Cells → Sole → Type 0

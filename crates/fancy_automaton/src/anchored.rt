@@ -1,18 +1,19 @@
 //! The attempt at one place: all ways begin there, and none at a later one.
 
-ghost use Rattle.std.specs.Prelude.{◌≡◌, ◌+◌, ◌-◌, ◌*◌, ◌<◌, ◌≤◌, ◌≢◌, [], ℕ, false, true, IfOk, IfSome, length, option_map};
+ghost use Rattle.std.specs.Prelude.{◌≡◌, ◌+◌, ◌-◌, ◌*◌, ◌<◌, ◌≤◌, ◌≢◌, [], ℕ, false, true, IfOk, IfSome, length};
 ghost use Rattle.fancy_code.specs.Attempt.{may_end_in};
 ghost use Rattle.fancy_code.specs.CodeLength.{code_len};
 ghost use Rattle.fancy_input.specs.Work.{steps_of};
 ghost use Rattle.fancy_prefilter.specs.Seen.{MayStart, NoneMayStart};
 ghost use Rattle.fancy_states.specs.Cells.{HasPlace, HasRow, HoldsFor, IsFor, ways_at};
 ghost use Rattle.fancy_states.specs.Counts.{AddsSteps};
-ghost use Rattle.fancy_automaton.specs.Decided.{Goal, IsDecided, Rests, attempt_goal, later_end};
-ghost use Rattle.fancy_states.specs.Search.{BegunIn, Passes, IsFollowed, ends_in};
+ghost use Rattle.fancy_automaton.specs.Decided.{Goal, IsDecided, IsGoal, Rests, attempt_goal, later_end};
+ghost use Rattle.fancy_states.specs.Search.{Passes, IsFollowed};
 
-use crate::follow::{Sole, lengthen};
+use crate::follow::lengthen;
 use crate::front::place_after;
 use crate::hop::{Stand, row_start};
+use crate::sole::Sole;
 use fancy_code::attempt::Attempt;
 use fancy_input::span::Span;
 use fancy_input::work::Work;
@@ -166,8 +167,7 @@ pub(crate) fn span_told(attempt: &Attempt, cells: &Cells) -> Option<Option<Span>
     requires ordered { attempt.now.base ≤ attempt.now.last }
     requires followed { IsFollowed attempt.now }
     requires kept { HoldsFor cells.now attempt.now.code.now }
-    ensures { IfSome result (λ found. (deep : ℕ) → BegunIn attempt.now deep
-        → option_map ends_in found ≡ attempt_goal attempt.now deep) }
+    ensures { IfSome result (IsGoal attempt.now (attempt_goal attempt.now)) }
 {
     let place = attempt.base;
     if !has_origin(attempt.code, cells) {
@@ -207,8 +207,7 @@ pub(crate) fn span_at(
     requires ordered { attempt.now.base ≤ attempt.now.last }
     requires followed { IsFollowed attempt.now }
     requires kept { HoldsFor cells.old attempt.now.code.now }
-    ensures answer { IfOk result (λ found. (deep : ℕ) → BegunIn attempt.now deep
-        → option_map ends_in found ≡ attempt_goal attempt.now deep) }
+    ensures answer { IfOk result (IsGoal attempt.now (attempt_goal attempt.now)) }
     ensures kept { HoldsFor cells.new attempt.now.code.now }
     ensures counts { AddsSteps
         (code_len attempt.now.code.now * (attempt.now.last + 1 - attempt.now.base))

@@ -1,14 +1,15 @@
 //! The inner loops of a search, where all ways that wait began at one place: no trail is needed there.
 
-ghost use Rattle.std.specs.Prelude.{◌≡◌, ◌+◌, ◌<◌, ◌≤◌, [], ℕ, None, IfSome, is_some, length, option_map, true};
-ghost use Rattle.fancy_code.specs.Attempt.{may_end_in};
-ghost use Rattle.fancy_states.specs.Cells.{HasRows, HoldsFor, IsIdle, ways_at};
-ghost use Rattle.fancy_states.specs.Search.{Going, IsFollowed};
+ghost use Rattle.std.specs.Prelude.{◌≡◌, ◌+◌, ◌<◌, ◌≤◌, None, IfSome, is_some, length, option_map, true};
+ghost use Rattle.fancy_states.specs.Cells.{HoldsFor, IsIdle};
+ghost use Rattle.fancy_states.specs.Search.{IsFollowed};
 ghost use Rattle.fancy_automaton.specs.Places.{IsNextPlace};
-ghost use Rattle.fancy_automaton.specs.Sole.{IsAmid, IsSole, Reaches, came_to};
+ghost use Rattle.fancy_automaton.specs.Sole.{IsLed, IsSole, Reaches, came_to};
 ghost use Rattle.fancy_automaton.specs.Decided.{Goal, IsDecided, IsPlaced, Opens};
 
-use crate::hop::{Stand, ahead_of, idle_row, row_start, stand_after};
+use crate::amid::{Amid, hunt};
+use crate::hop::{Stand, ahead_of, idle_row, stand_after};
+use crate::sole::Sole;
 use crate::told::told_at;
 use fancy_code::attempt::Attempt;
 use fancy_meaning::options::is_match_boundary;
@@ -17,55 +18,7 @@ use fancy_prefilter::prefilter::Anchor;
 use fancy_states::cells::Cells;
 use fancy_states::origin::Origin;
 use fancy_states::rows::Target;
-use fancy_states::trail::VISITS;
 use fancy_states::transitions::{Entry, Transition};
-
-/// A search whose ways that wait all began at one place, and so did the match that was found, if one was.
-#[derive(Clone, Copy)]
-pub struct Sole {
-    /// Where it stands.
-    pub stand: Stand,
-    /// Where they began, a byte offset.
-    pub start: usize,
-    /// Where the match ends, a byte offset.
-    pub end: Option<usize>,
-}
-
-impl Sole {
-    /// At a place where no way waits, and nothing was found.
-    #[inline(always)]
-    pub(crate) fn new(attempt: &Attempt, cells: &Cells, rows: Target, place: usize) -> Sole
-        requires followed { IsFollowed attempt.now }
-        requires kept { HoldsFor cells.now attempt.now.code.now }
-        requires rows { HasRows cells.now.rows.lists.items rows.next rows.begun []
-            attempt.now.code.now.start }
-        requires going { Going attempt.now [] [] None place place }
-        requires good { may_end_in attempt.now place ≡ true }
-        requires within { place ≤ attempt.now.last }
-        ensures sole { IsSole attempt.now cells.now result }
-        ensures place { result.stand.place ≡ place }
-    {
-        Sole {
-            stand: Stand {
-                place,
-                next: rows.next,
-                begun: rows.begun,
-                opened: row_start(attempt, cells, place, rows.begun),
-            },
-            start: place,
-            end: None,
-        }
-    }
-
-    /// Whether the search is over: a match was found, and no way waits.
-    pub(crate) fn is_over(self, cells: &Cells) -> bool
-        requires { self.stand.next < length cells.now.rows.lists.items }
-        ensures found { result ≡ true → is_some self.end ≡ true }
-        ensures over { result ≡ true → ways_at cells.now.rows.lists.items self.stand.next ≡ [] }
-    {
-        self.end.is_some() && cells.rows.lists[self.stand.next].len() == 0
-    }
-}
 
 /// The first place, from one on, at which a match may begin by the byte there; past the last one where there is none.
 #[inline(always)]
@@ -207,39 +160,6 @@ fn seek(attempt: &Attempt, cells: &Cells, from: Sole, idle: usize, any: bool) ->
     }
 }
 
-/// The next place at which all ways that wait began at one place again, if the table leads there with nothing found, and within as
-/// many places as a trail has: those are passed once more with a trail where it does not. So no place is passed many times.
-#[inline(always)]
-fn hunt(attempt: &Attempt, cells: &Cells, from: Stand, idle: usize) -> Option<Sole>
-    requires idle { IsIdle cells.now.rows.lists.items idle }
-    requires amid { IsAmid attempt.now cells.now from }
-    ensures reaches { IfSome result (Reaches attempt.now cells.now (from.place + 1)) }
-    ensures nothing { IfSome result (λ s. s.end ≡ None) }
-{
-    let table = cells.table.view();
-    let limit = attempt.last.min(from.place.saturating_add(VISITS));
-    let mut at = from;
-    'places: while at.place < limit {
-        let told = told_at(attempt, table, at.opened, at.place, false)?;
-        let Entry::Quiet(step) = *told.entry else {
-            return None;
-        };
-        let sole = Sole {
-            stand: stand_after(told.past, step),
-            start: at.place,
-            end: None,
-        };
-        if sole.stand.next == idle {
-            return Some(sole);
-        }
-        if let Origin::Last = step.origin {
-            return Some(sole);
-        }
-        at = sole.stand;
-    }
-    None
-}
-
 /// The next place at which a match may begin, if no way waits and nothing was found.
 #[inline(always)]
 fn skip(attempt: &Attempt, cells: &Cells, from: Sole, idle: usize) -> Option<Sole>
@@ -262,15 +182,18 @@ fn skip(attempt: &Attempt, cells: &Cells, from: Sole, idle: usize) -> Option<Sol
     Some(Sole::new(attempt, cells, rows, place))
 }
 
-/// The next place at which all ways that wait began at one place again, or if none waits there, the one after it at which a match may
-/// begin.
-#[inline(always)]
-fn onward(attempt: &Attempt, cells: &Cells, from: Stand, idle: usize) -> Option<Sole>
+/// The next place at which all ways that wait began at one place again, or if none waits there, and nothing was found, the one after it at
+/// which a match may begin.
+#[inline(never)]
+fn onward(attempt: &Attempt, cells: &Cells, from: Amid, idle: usize) -> Option<Sole>
     requires idle { IsIdle cells.now.rows.lists.items idle }
-    requires amid { IsAmid attempt.now cells.now from }
-    ensures { IfSome result (Reaches attempt.now cells.now (from.place + 1)) }
+    requires led { IsLed attempt.now cells.now from }
+    ensures { IfSome result (Reaches attempt.now cells.now (from.stand.place + 1)) }
 {
     let sole = hunt(attempt, cells, from, idle)?;
+    if sole.end.is_some() {
+        return Some(sole);
+    }
     let next = skip(attempt, cells, sole, idle)?;
     Some(next)
 }
@@ -296,7 +219,15 @@ fn past(attempt: &Attempt, cells: &Cells, at: Sole, idle: usize, any: bool) -> O
     let told = told_at(attempt, table, at.stand.opened, at.stand.place, any)?;
     let step = match *told.entry {
         Entry::Unknown => return None,
-        Entry::Quiet(_) => return onward(attempt, cells, at.stand, idle),
+        Entry::Quiet(step) if step.next as usize == idle => {
+            let sole = Sole {
+                stand: stand_after(told.past, step),
+                start: at.stand.place,
+                end: None,
+            };
+            return skip(attempt, cells, sole, idle);
+        }
+        Entry::Quiet(_) => return onward(attempt, cells, Amid::new(cells, at), idle),
         Entry::Matching(step) => step,
     };
     let start = match step.origin {

@@ -13,8 +13,9 @@ ghost use Rattle.fancy_automaton.specs.Sole.{IsSole};
 ghost use Rattle.fancy_alphabet.specs.Units.{place_after};
 ghost use Rattle.fancy_states.specs.Counts.{AddsSteps};
 
-use crate::follow::{Sole, follow, follow_any, next_start};
+use crate::follow::{follow, follow_any, next_start};
 use crate::hop::{Stand, row_start, run};
+use crate::sole::Sole;
 use crate::told::{is_wide_at, told_at};
 use fancy_alphabet::sight::{Sight, ascii_at};
 use fancy_code::attempt::Attempt;

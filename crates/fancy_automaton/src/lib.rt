@@ -14,9 +14,11 @@
 //! from, so it is followed back to the step at which it began.
 #![tactic(auto)]
 
+mod amid;
 mod anchored;
 pub mod follow;
 pub mod front;
 pub mod hop;
 pub mod search;
+pub mod sole;
 mod told;

@@ -1,6 +1,6 @@
 //! Searches by the automaton: the match that the runner finds, without its groups.
 
-ghost use Rattle.std.specs.Prelude.{◌≡◌, ◌+◌, ◌-◌, ◌*◌, ◌≤◌, ℕ, Bool, None, if◌then◌else◌, true, IfOk, IfErr, IfSome, length, option_map};
+ghost use Rattle.std.specs.Prelude.{◌≡◌, ◌+◌, ◌-◌, ◌*◌, ◌≤◌, ℕ, Bool, None, if◌then◌else◌, true, IfOk, IfErr, IfSome, is_some, length, option_map};
 ghost use Rattle.fancy_tree.specs.Pattern.{Pattern};
 ghost use Rattle.fancy_input.specs.Requests.{effective_start};
 ghost use Rattle.fancy_code.specs.Code.{instrs_of};
@@ -10,15 +10,18 @@ ghost use Rattle.fancy_code.specs.Queries.{query_of, unfiltered, most_steps};
 ghost use Rattle.fancy_meaning.specs.Search.{search};
 ghost use Rattle.fancy_prefilter.specs.Seen.{NoneMayStart};
 ghost use Rattle.fancy_input.specs.Work.{steps_of, returns_of, units_of};
-ghost use Rattle.fancy_states.specs.Cells.{IsFor, IsBounded, HoldsFor};
+ghost use Rattle.fancy_states.specs.Cells.{IsFor, IsBounded, HoldsFor, row_if};
 ghost use Rattle.fancy_states.specs.Futures.{ArePlain};
 ghost use Rattle.fancy_states.specs.Search.{BegunIn, IsFoundAs, KeepsPlaces, at_position, ends_in, leftmost_in, IsFollowed};
 ghost use Rattle.fancy_states.specs.Counts.{AddsSteps};
+ghost use Rattle.fancy_states.specs.Trail.{match_from};
+ghost use Rattle.fancy_automaton.specs.Decided.{IsGoal, attempt_goal, search_goal};
 ghost use Rattle.fancy_automaton.specs.Sole.{IsSole};
 
 use crate::anchored::{span_at, span_told};
-use crate::follow::{Sole, follow, follow_any, next_start};
+use crate::follow::{follow, follow_any, next_start};
 use crate::front::Front;
+use crate::sole::Sole;
 use crate::told::is_wide_at;
 use fancy_code::attempt::Attempt;
 use fancy_code::code::Code;
@@ -28,7 +31,8 @@ use fancy_input::refusal::SearchRefusal;
 use fancy_input::span::Span;
 use fancy_input::work::Work;
 use fancy_meaning::options::SearchOptions;
-use fancy_states::cells::{Cells, origin};
+use fancy_states::cells::{Cells, origin, remembered, seen_at};
+use fancy_states::origin::Origin;
 use fancy_states::trail::span_from;
 use std::alloc::AllocError;
 
@@ -43,9 +47,7 @@ fn trace(
     work: &mut Work,
 ) -> Result<Option<Span>, AllocError>
     requires sole { IsSole attempt.now cells.old from }
-    ensures answer { IfOk result (λ found. (deep : ℕ) → BegunIn attempt.now deep
-        → option_map ends_in found
-        ≡ leftmost_in attempt.now deep (attempt.now.last + 1 - attempt.now.base) attempt.now.base) }
+    ensures answer { IfOk result (IsGoal attempt.now (search_goal attempt.now)) }
     ensures kept { HoldsFor cells.new attempt.now.code.now }
     ensures counts { AddsSteps
         (code_len attempt.now.code.now * (attempt.now.last + 1 - from.stand.place))
@@ -65,6 +67,54 @@ fn trace(
     }
 }
 
+/// The row of the ways that may go on at a place: where nothing was found, one more begins there.
+#[inline(always)]
+fn row_of(at: Sole) -> usize
+    ensures { result ≡ row_if (match_from at.start at.end) at.stand.next at.stand.begun }
+{
+    match at.end {
+        None => at.stand.begun,
+        Some(_) => at.stand.next,
+    }
+}
+
+/// Where the last one of them began.
+#[inline(always)]
+fn last_begun(at: Sole) -> usize
+    ensures here { at.end ≡ None → result ≡ at.stand.place }
+    ensures before { is_some at.end ≡ true → result ≡ at.start }
+{
+    match at.end {
+        None => at.stand.place,
+        Some(_) => at.start,
+    }
+}
+
+/// Where the leftmost match begins and ends, if there is one, where a walk without a trail ended at the last place and the step there is
+/// remembered. `None` where it is not.
+#[inline(always)]
+fn told_end(attempt: &Attempt, cells: &Cells, at: Sole) -> Option<Option<Span>>
+    requires sole { IsSole attempt.now cells.now at }
+    requires last { attempt.now.last ≤ at.stand.place }
+    ensures { IfSome result (IsGoal attempt.now (search_goal attempt.now)) }
+{
+    let place = at.stand.place;
+    let sight = seen_at(attempt, cells, place);
+    let k = remembered(cells, row_of(at), sight)?;
+    let cell = &cells.cells[k];
+    match cell.matched {
+        None => Some(span_from(at.start, at.end)),
+        Some(_) => {
+            let start = match cell.origin {
+                Origin::Mixed => return None,
+                Origin::Last => last_begun(at),
+                Origin::Earlier => at.start,
+            };
+            Some(Some(Span { start, end: place }))
+        }
+    }
+}
+
 /// Where the leftmost match within the bounds begins and ends that is preferred there, if there is one.
 #[inline(always)]
 fn find_span(
@@ -75,9 +125,7 @@ fn find_span(
     requires ordered { attempt.now.base ≤ attempt.now.last }
     requires followed { IsFollowed attempt.now }
     requires kept { HoldsFor cells.old attempt.now.code.now }
-    ensures answer { IfOk result (λ found. (deep : ℕ) → BegunIn attempt.now deep
-        → option_map ends_in found
-        ≡ leftmost_in attempt.now deep (attempt.now.last + 1 - attempt.now.base) attempt.now.base) }
+    ensures answer { IfOk result (IsGoal attempt.now (search_goal attempt.now)) }
     ensures kept { HoldsFor cells.new attempt.now.code.now }
     ensures counts { AddsSteps
         (code_len attempt.now.code.now * (attempt.now.last + 1 - attempt.now.base))
@@ -103,6 +151,12 @@ fn find_span(
     if to.is_over(cells) {
         cells.reached = to.stand.place;
         return Ok(span_from(to.start, to.end));
+    }
+    if to.stand.place >= attempt.last
+        && let Some(found) = told_end(attempt, cells, to)
+    {
+        cells.reached = to.stand.place;
+        return Ok(found);
     }
     let found = trace(attempt, cells, to, &mut region, work)?;
     Ok(found)

@@ -22,11 +22,11 @@ pub(crate) const MOST_WORTH: usize = 2048;
 /// A search of a list by the runner takes about as long as so many more of its steps.
 pub(crate) const SEARCH: usize = 8;
 
-/// A search that takes fewer steps at most is served by the runner alone, where a scan finds the few places at which a match may begin.
-const FEW_STEPS: usize = 2000;
+/// A search that takes fewer steps at most is served by the runner alone.
+const LEAST_STEPS: usize = 500;
 
-/// The same where a scan tells little of where matches begin.
-const FEWER_STEPS: usize = 500;
+/// The same where a scan finds the few places at which a match may begin.
+const LEAST_STEPS_SCANNED: usize = 2000;
 
 /// The runner does not begin where its table would have more bits: it asks for all of them at once, one MiB here.
 pub(crate) const TABLE: usize = 8_388_608;
@@ -76,14 +76,6 @@ fn has_wide_loop(code: &Code) -> bool {
     false
 }
 
-/// Whether matches may start with different bytes.
-fn starts_differ(prefilter: &Prefilter) -> bool {
-    match &prefilter.starts {
-        None => true,
-        Some(scan) => scan.only().is_none(),
-    }
-}
-
 /// Whether some match may start with an ASCII character.
 fn starts_in_ascii(prefilter: &Prefilter) -> bool {
     let Some(scan) = &prefilter.starts else {
@@ -105,7 +97,11 @@ fn tells_words(prefilter: &Prefilter) -> bool {
 
 /// Whether a scan tells little of where matches begin: none is made for what they open with, and they may start with different bytes.
 fn is_told_little(prefilter: &Prefilter) -> bool {
-    !prefilter.scans_for_opening() && starts_differ(prefilter)
+    let starts_differ = match &prefilter.starts {
+        None => true,
+        Some(scan) => scan.only().is_none(),
+    };
+    !prefilter.scans_for_opening() && starts_differ
 }
 
 /// Whether the code reads one item, and then matches. A test of the place alone may hold before any byte.
@@ -122,10 +118,10 @@ pub(crate) fn least_steps(code: &Code) -> Option<usize> {
         return None;
     }
     if is_told_little(prefilter) {
-        return Some(FEWER_STEPS);
+        return Some(LEAST_STEPS);
     }
     if opens_wide(code) || has_wide_loop(code) {
-        return Some(FEW_STEPS);
+        return Some(LEAST_STEPS_SCANNED);
     }
     None
 }

@@ -817,7 +817,8 @@ impl Program {
         self.can_follow(asked.text)
     }
 
-    /// Whether a search alone, or the first of a list, may be worth the automaton's steps: it may take many, and the runner does not leap.
+    /// Whether a search alone, or the first of a list, may be worth the automaton's steps: it may take `least` steps or more, and the
+    /// runner does not leap.
     #[inline(always)]
     fn is_worth_beginning(&self, asked: &Asked<'_>, least: usize) -> bool {
         let (first, end) = (asked.request.effective_start(), asked.request.range_end);

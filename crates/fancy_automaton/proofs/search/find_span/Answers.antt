@@ -65,6 +65,22 @@ is_over-requires-2 c =
     ] in
     row_within cells.rows.lists.items c.if-is_wide_at.to.stand.next two.sole.0 two.sole.1.waits
 
+pub told_end-requires-clause-sole : goal.told_end-requires-clause-sole
+told_end-requires-clause-sole c =
+    let a = c.args.attempt.now in
+    let cells = c.origin.new.cells in
+    let p = c.new-to.result.stand.place in
+    let one : Reaches a cells p c.if-not-is_wide_at.to = elim c.if-not-is_wide_at.branch [
+      | then-not-is_wide_at w ↦ subst (Reaches a cells p) (sym w.to-is) w.follow-to.ensures.reaches
+      | else-not-is_wide_at w ↦ subst (Reaches a cells p) (sym w.to-is) (record { sole = c.new-to.ensures.sole; forth = omega arith })
+    ] in
+    let two : Reaches a cells p c.if-is_wide_at.to = elim c.if-is_wide_at.branch [
+      | then-is_wide_at+then-not-is_over w ↦ subst (Reaches a cells p) (sym w.to-is)
+          (record { sole = w.follow_any-to.ensures.reaches.sole; forth = omega (arith, one.forth, w.follow_any-to.ensures.reaches.forth) })
+      | else-is_wide_at w ↦ subst (Reaches a cells p) (sym w.to-is) one
+    ] in
+    two.sole
+
 pub trace-requires : goal.trace-requires
 trace-requires c =
     let a = c.args.attempt.now in
@@ -120,8 +136,8 @@ returns-then-is_over-clause-kept c = record {
   all = c.origin.ensures.kept.all;
 }
 
-pub returns-clause-counts : goal.returns-clause-counts
-returns-clause-counts c =
+pub returns-2-clause-counts : goal.returns-2-clause-counts
+returns-2-clause-counts c =
     let a = c.args.attempt.now in
     let cells = c.origin.new.cells in
     let p = c.new-to.result.stand.place in

@@ -1,4 +1,4 @@
-use Rattle.std.proofs.Common.{◌≡◌, ℕ, ◌+◌, ◌-◌, ◌<◌, ◌≤◌, ◌∙◌, Bool, true, false, List, Option, Some, None, sym, ap, ap₂, subst, arith, refl}
+use Rattle.std.proofs.Common.{◌≡◌, ℕ, ◌+◌, ◌-◌, ◌<◌, ◌≤◌, ◌∙◌, Bool, true, false, Option, Some, None, sym, ap, ap₂, subst, arith, refl}
 use Rattle.fancy_code.specs.declared.found.Found.{Found}
 use Rattle.fancy_states.specs.Search.{IsFoundAs}
 use Rattle.std.specs.Prelude.{min, if◌then◌else◌}

@@ -1,5 +1,5 @@
 use Rattle.std.proofs.Common.{[]}
-use Rattle.fancy_automaton.proofs.follow.Sole.new.Goals as goal
+use Rattle.fancy_automaton.proofs.sole.Sole.new.Goals as goal
 
 pub returns-clause-sole : goal.returns-clause-sole
 returns-clause-sole c = (
