@@ -1,5 +1,5 @@
 -- Steps of a search whose ways that wait all began at one place.
-use Rattle.std.proofs.Common.{◌≡◌, ℕ, zero, suc, ◌+◌, ◌-◌, ◌<◌, ◌≤◌, inl, inr, ◌++◌, ◌∷◌, [], Bool, true, List, Option, Some, None, refl, sym, ap, ap₂, ◌∙◌, subst, arith, length, map, replicate, take, length-append, option_map}
+use Rattle.std.proofs.Common.{◌≡◌, ℕ, zero, suc, ◌+◌, ◌-◌, ◌<◌, ◌≤◌, ◌≢◌, ◌⊎◌, inl, inr, ◌++◌, ◌∷◌, [], Bool, true, List, Option, Some, None, refl, sym, ap, ap₂, ◌∙◌, subst, arith, length, map, replicate, take, length-append, option_map}
 use Rattle.std.specs.Prelude.{slice_get, slice_index, nat_eq, nat_lt, is_some, IfSome}
 use Rattle.std.specs.List.{list_all}
 use Rattle.std.specs.Option.{option_or}
@@ -18,7 +18,7 @@ use Rattle.fancy_states.specs.declared.cells.Cell.{Cell}
 use Rattle.fancy_states.specs.declared.cells.Cells.{Cells}
 use Rattle.fancy_automaton.specs.declared.hop.Stand.{Stand}
 use Rattle.fancy_states.specs.declared.origin.Origin.{Origin}
-use Rattle.fancy_states.specs.declared.origin.Origin.TheVariants.{Earlier, Last}
+use Rattle.fancy_states.specs.declared.origin.Origin.TheVariants.{Earlier, Last, Mixed}
 use Rattle.fancy_states.specs.declared.transitions.Transition.{Transition}
 use Rattle.fancy_states.specs.declared.way.Way.{Way}
 use Rattle.fancy_alphabet.specs.declared.classes.Classes.{Classes}
@@ -332,6 +332,12 @@ module _ (a : Attempt) (cells : Cells) (at : Stand) (past : ℕ) (asked : Sight)
       starts_here a cells at ways 0 (Some (record { start = at.place; end = at.place })) past t there.0 starts is.going.even
       (matching a cells at ways starts None at.begun past asked t there.0 sees is refl told.0 there.1 some.0 at.place some.1
       (last_began ways starts a.code.now.start at.place some.0 is.going.even come)) e
+
+-- it is told of which ways those come that go on
+pub sorted : (o : Origin) → o ≢ Mixed → (o ≡ Earlier) ⊎ (o ≡ Last)
+sorted Earlier told = inl refl
+sorted Last told = inr refl
+sorted Mixed told = absurd (told refl)
 
 -- where no way waits, they began anywhere
 pub idle_sole : (a : Attempt) (cells : Cells) (at : Stand) (idle start : ℕ) → IsIdle cells.rows.lists.items idle → at.next ≡ idle → IsAmid a cells at

@@ -9,7 +9,7 @@ ghost use Rattle.fancy_automaton.specs.Told.{IsTold};
 
 use crate::hop::{Stand, stand_after};
 use crate::sole::Sole;
-use crate::told::{Told, told_at};
+use crate::told::{Told, quiet_step, told_at};
 use fancy_code::attempt::Attempt;
 use fancy_states::cells::{Cell, Cells};
 use fancy_states::origin::Origin;
@@ -95,25 +95,21 @@ fn gathered(cells: &Cells, at: Amid, told: Told, idle: usize) -> Option<Sole>
         → IsTold a cells.now at.stand.begun at.stand.place told.entry.past told.entry.entry.now
         → IfSome result (Reaches a cells.now (at.stand.place + 1)) }
 {
-    match *told.entry {
-        Entry::Unknown => None,
-        Entry::Quiet(step) => {
-            let start = quiet_start(cells, at, step, idle)?;
-            Some(Sole {
-                stand: stand_after(told.past, step),
-                start,
-                end: None,
-            })
-        }
-        Entry::Matching(step) => {
-            let start = led_start(cells, at, step)?;
-            Some(Sole {
-                stand: stand_after(told.past, step),
-                start,
-                end: Some(at.stand.place),
-            })
-        }
+    if let Entry::Matching(step) = *told.entry {
+        let start = led_start(cells, at, step)?;
+        return Some(Sole {
+            stand: stand_after(told.past, step),
+            start,
+            end: Some(at.stand.place),
+        });
     }
+    let step = quiet_step(*told.entry)?;
+    let start = quiet_start(cells, at, step, idle)?;
+    Some(Sole {
+        stand: stand_after(told.past, step),
+        start,
+        end: None,
+    })
 }
 
 /// How many of the first ways that a step leads to come from the first ones of its row.
@@ -140,9 +136,7 @@ fn stepped(cells: &Cells, at: Amid, told: Told) -> Option<Amid>
         → IfSome result (IsLed a cells.now) }
     ensures past { IfSome result (λ m. m.stand.place ≡ told.entry.past) }
 {
-    let Entry::Quiet(step) = *told.entry else {
-        return None;
-    };
+    let step = quiet_step(*told.entry)?;
     Some(Amid {
         stand: stand_after(told.past, step),
         start: at.start,

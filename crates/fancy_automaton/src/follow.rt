@@ -10,7 +10,7 @@ ghost use Rattle.fancy_automaton.specs.Decided.{Goal, IsDecided, IsPlaced, Opens
 use crate::amid::{Amid, hunt};
 use crate::hop::{Stand, ahead_of, idle_row, stand_after};
 use crate::sole::Sole;
-use crate::told::told_at;
+use crate::told::{quiet_step, told_at};
 use fancy_code::attempt::Attempt;
 use fancy_meaning::options::is_match_boundary;
 use fancy_prefilter::candidates::{next_candidate, next_opening};
@@ -117,8 +117,22 @@ fn may_start(attempt: &Attempt, place: usize) -> bool
     }
 }
 
-/// Goes on until a match is found, or ways wait that began at several places. Where no way waits at two places in a row, it is
-/// left to a scan to find the next place. Past ASCII, where a step costs more, that is so where none waits and none may start.
+/// Where all ways began that go on after a step at a place: there, if they come from the last way of its row.
+#[inline(always)]
+fn start_after(origin: Origin, place: usize, start: usize) -> usize
+    ensures last { origin ≡ Origin.Last → result ≡ place }
+    ensures earlier { origin ≡ Origin.Earlier → result ≡ start }
+{
+    if matches!(origin, Origin::Last) {
+        place
+    } else {
+        start
+    }
+}
+
+/// Goes on until a match is found, or ways wait that began at several places. Where no way waits at two places in a row, it may be left to
+/// a scan to find the next place. Past ASCII, where a step costs more, that is so where none waits and none may start. Where the ways
+/// began is told without a branch, which would be foreseen too seldom.
 #[inline(always)]
 fn seek(attempt: &Attempt, cells: &Cells, from: Sole, idle: usize, any: bool) -> Sole
     requires idle { IsIdle cells.now.rows.lists.items idle }
@@ -136,16 +150,16 @@ fn seek(attempt: &Attempt, cells: &Cells, from: Sole, idle: usize, any: bool) ->
         let Some(told) = told_at(attempt, table, row, place, any) else {
             break 'places;
         };
-        let Entry::Quiet(step) = told.entry else {
-            break 'places;
-        };
         let mut ends = false;
-        match step.origin {
-            Origin::Mixed if step.next as usize != idle => break 'places,
-            Origin::Mixed => ends = !any || !may_start(attempt, told.past),
-            Origin::Last => start = place,
-            Origin::Earlier => {}
-        }
+        let step = match told.entry {
+            Entry::Quiet(step) => step,
+            Entry::Mixed(step) if step.next as usize == idle => {
+                ends = !any || !may_start(attempt, told.past);
+                step
+            }
+            _ => break 'places,
+        };
+        start = start_after(step.origin, place, start);
         row = step.opened;
         place = told.past;
         last = Some(step);
@@ -217,18 +231,19 @@ fn past(attempt: &Attempt, cells: &Cells, at: Sole, idle: usize, any: bool) -> O
     }
     let table = cells.table.view();
     let told = told_at(attempt, table, at.stand.opened, at.stand.place, any)?;
-    let step = match *told.entry {
-        Entry::Unknown => return None,
-        Entry::Quiet(step) if step.next as usize == idle => {
-            let sole = Sole {
-                stand: stand_after(told.past, step),
-                start: at.stand.place,
-                end: None,
-            };
-            return skip(attempt, cells, sole, idle);
+    if let Some(step) = quiet_step(*told.entry) {
+        if step.next as usize != idle {
+            return onward(attempt, cells, Amid::new(cells, at), idle);
         }
-        Entry::Quiet(_) => return onward(attempt, cells, Amid::new(cells, at), idle),
-        Entry::Matching(step) => step,
+        let sole = Sole {
+            stand: stand_after(told.past, step),
+            start: at.stand.place,
+            end: None,
+        };
+        return skip(attempt, cells, sole, idle);
+    }
+    let Entry::Matching(step) = *told.entry else {
+        return None;
     };
     let start = match step.origin {
         Origin::Mixed => return None,
@@ -270,7 +285,7 @@ pub(crate) fn lengthen(attempt: &Attempt, cells: &Cells, from: Sole, any: bool) 
         };
         let step = match told.entry {
             Entry::Unknown => break 'places,
-            Entry::Quiet(step) => step,
+            Entry::Quiet(step) | Entry::Mixed(step) => step,
             Entry::Matching(step) => {
                 end = Some(place);
                 step

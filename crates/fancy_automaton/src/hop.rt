@@ -78,7 +78,7 @@ fn step_of(
 {
     match entry {
         Entry::Unknown => None,
-        Entry::Quiet(step) => Some(step),
+        Entry::Quiet(step) | Entry::Mixed(step) => Some(step),
         Entry::Matching(step) => {
             let k = step.cell as usize;
             let cell = cells.cells.get(k)?;

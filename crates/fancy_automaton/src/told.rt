@@ -6,12 +6,13 @@ ghost use Rattle.fancy_alphabet.specs.Classes.{IsStart};
 ghost use Rattle.fancy_automaton.specs.Told.{IsTold};
 ghost use Rattle.fancy_states.specs.Cells.{HoldsFor};
 ghost use Rattle.fancy_states.specs.Search.{IsFollowed};
-ghost use Rattle.fancy_states.specs.Transitions.{IsView};
+ghost use Rattle.fancy_alphabet.specs.declared.sight.Sight.{Sight};
+ghost use Rattle.fancy_states.specs.Transitions.{IsEntry, IsQuiet, IsTransition, IsView};
 ghost use Rattle.fancy_states.specs.declared.cells.Cells.{Cells};
 
 use fancy_code::attempt::Attempt;
 use fancy_meaning::reading::read_any_at;
-use fancy_states::transitions::{Entry, View};
+use fancy_states::transitions::{Entry, Transition, View};
 
 /// The step that the table has of a row and the character at a place.
 #[derive(Clone, Copy)]
@@ -20,6 +21,20 @@ pub(crate) struct Told<'t> {
     pub(crate) entry: &'t Entry,
     /// The place after the character, a byte offset.
     pub(crate) past: usize,
+}
+
+/// The step of an entry, if it has one in which no way ended with an outcome.
+#[inline(always)]
+pub(crate) fn quiet_step(entry: Entry) -> Option<Transition>
+    ensures { (cells : Cells) (row : ℕ) (sight : Sight)
+        → IsEntry cells.table.classes cells.cells.items row sight entry
+        → IfSome result (λ t. IsTransition cells.table.classes cells.cells.items row sight t
+        × IsQuiet cells.cells.items t) }
+{
+    match entry {
+        Entry::Quiet(step) | Entry::Mixed(step) => Some(step),
+        Entry::Unknown | Entry::Matching(_) => None,
+    }
 }
 
 /// Whether a byte stands at a place that is no ASCII character.

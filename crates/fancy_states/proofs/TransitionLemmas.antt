@@ -7,7 +7,7 @@ use Rattle.std.proofs.lemmas.Option.{slice_get_cases}
 use Rattle.fancy_states.specs.declared.cells.Cell.{Cell}
 use Rattle.fancy_states.specs.declared.transitions.Transition.{Transition}
 use Rattle.fancy_states.specs.declared.transitions.Entry.{Entry}
-use Rattle.fancy_states.specs.declared.transitions.Entry.TheVariants.{Unknown, Quiet, Matching}
+use Rattle.fancy_states.specs.declared.transitions.Entry.TheVariants.{Unknown, Quiet, Mixed, Matching}
 use Rattle.fancy_states.specs.declared.transitions.Transitions.{Transitions}
 use Rattle.fancy_states.specs.declared.slots.Slot.{Slot}
 use Rattle.fancy_states.specs.declared.slots.Slots.{Slots}
@@ -39,6 +39,7 @@ pub told_entry : (cells : List Cell) (table : Transitions) (row column : ℕ) (s
     → e ≡ entry_at table row column → IsEntry table.classes cells row sight e
 told_entry cells table row column sight Unknown told is e = tt
 told_entry cells table row column sight (Quiet t) told is e = told.quiet row column sight t is (sym e)
+told_entry cells table row column sight (Mixed t) told is e = told.mixed row column sight t is (sym e)
 told_entry cells table row column sight (Matching t) told is e = told.matching row column sight t is (sym e)
 
 -- what a slot has
@@ -47,6 +48,7 @@ told_slot cells table s told is some row before low begins = by s.entry refl whe
   by : (e : Entry) → s.entry ≡ e → IsEntry table.classes cells row (slot_sight before s) e
   by Unknown same = tt
   by (Quiet t) same = told.apart_quiet s is some row before low begins t same
+  by (Mixed t) same = told.apart_mixed s is some row before low begins t same
   by (Matching t) same = told.apart_matching s is some row before low begins t same
 
 -- more cells
@@ -72,19 +74,21 @@ module _ (cells later : List Cell) (grown : KeepsCells cells later) (longer : le
 
   more_entry : (classes : Classes) (row : ℕ) (sight : Sight) (e : Entry) → IsEntry classes cells row sight e → IsEntry classes later row sight e
   more_entry classes row sight Unknown is = tt
-  more_entry classes row sight (Quiet t) is = (more_transition classes row sight t is.0, λ c at. is.1 c (stays t.cell is.0.stands c at))
+  more_entry classes row sight (Quiet t) is = (more_transition classes row sight t is.0, λ c at. is.1 c (stays t.cell is.0.stands c at), is.2)
+  more_entry classes row sight (Mixed t) is = (more_transition classes row sight t is.0, λ c at. is.1 c (stays t.cell is.0.stands c at))
   more_entry classes row sight (Matching t) is = (more_transition classes row sight t is.0, λ c at. is.1 c (stays t.cell is.0.stands c at))
 
   pub told_more : (table : Transitions) → AreTold cells table → AreTold later table
   told_more table told = record {
     apart_quiet = λ s there some row before low begins t e.
         more_entry table.classes row (slot_sight before s) (Quiet t) (told.apart_quiet s there some row before low begins t e);
+    apart_mixed = λ s there some row before low begins t e.
+        more_entry table.classes row (slot_sight before s) (Mixed t) (told.apart_mixed s there some row before low begins t e);
     apart_matching = λ s there some row before low begins t e.
         more_entry table.classes row (slot_sight before s) (Matching t) (told.apart_matching s there some row before low begins t e);
-    quiet = λ row column sight t is e.
-        (let q = told.quiet row column sight t is e in (more_transition table.classes row sight t q.0, λ c at. q.1 c (stays t.cell q.0.stands c at)));
-    matching = λ row column sight t is e.
-        (let q = told.matching row column sight t is e in (more_transition table.classes row sight t q.0, λ c at. q.1 c (stays t.cell q.0.stands c at)));
+    quiet = λ row column sight t is e. more_entry table.classes row sight (Quiet t) (told.quiet row column sight t is e);
+    mixed = λ row column sight t is e. more_entry table.classes row sight (Mixed t) (told.mixed row column sight t is e);
+    matching = λ row column sight t is e. more_entry table.classes row sight (Matching t) (told.matching row column sight t is e);
   }
 
 -- the column of what is seen is one of the table
@@ -119,9 +123,12 @@ pub told_by : (cells : List Cell) (table later : Transitions) → later.classes 
 told_by cells table later same told slots each = record {
   apart_quiet = λ s is some row before low begins t e.
       subst (IsEntry later.classes cells row (slot_sight before s)) e (subst (λ (k : Classes). IsSlot k cells s) (sym same) (slots s is) some row before low begins);
+  apart_mixed = λ s is some row before low begins t e.
+      subst (IsEntry later.classes cells row (slot_sight before s)) e (subst (λ (k : Classes). IsSlot k cells s) (sym same) (slots s is) some row before low begins);
   apart_matching = λ s is some row before low begins t e.
       subst (IsEntry later.classes cells row (slot_sight before s)) e (subst (λ (k : Classes). IsSlot k cells s) (sym same) (slots s is) some row before low begins);
   quiet = λ row column sight t is e. there row column sight (Quiet t) (column_in sight column is) e (λ old. told.quiet row column sight t (column_in sight column is) old);
+  mixed = λ row column sight t is e. there row column sight (Mixed t) (column_in sight column is) e (λ old. told.mixed row column sight t (column_in sight column is) old);
   matching = λ row column sight t is e. there row column sight (Matching t) (column_in sight column is) e (λ old. told.matching row column sight t (column_in sight column is) old);
 } where
   column_in : (sight : Sight) (column : ℕ) → IsColumn later.classes sight column → IsColumn table.classes sight column

@@ -12,7 +12,8 @@ use Rattle.fancy_alphabet.specs.declared.classes.Classes.{Classes}
 use Rattle.fancy_states.specs.declared.transitions.Entry.{Entry}
 use Rattle.fancy_states.specs.declared.transitions.Transitions.{Transitions}
 use Rattle.fancy_states.specs.declared.transitions.View.{View}
-use Rattle.fancy_states.specs.declared.transitions.Entry.TheVariants.{Unknown, Quiet, Matching}
+use Rattle.fancy_states.specs.declared.transitions.Entry.TheVariants.{Unknown, Quiet, Mixed, Matching}
+use Rattle.fancy_states.specs.declared.origin.Origin.TheVariants as origin
 
 -- The step is that of a cell from the row on what is seen, and leads to where its rows have their columns after it.
 pub record IsTransition (classes : Classes) (cells : List Cell) (row : ℕ) (sight : Sight) (t : Transition) : Type 0 where
@@ -33,9 +34,14 @@ IsQuiet cells t = (c : Cell) → slice_get cells t.cell ≡ Some c → c.matched
 abbrev pub IsMatching : List Cell → Transition → Type 0
 IsMatching cells t = (c : Cell) → slice_get cells t.cell ≡ Some c → is_some c.matched ≡ true
 
+-- it is told of which ways those come that go on
+abbrev pub IsSorted : Transition → Type 0
+IsSorted t = t.origin ≢ origin.Mixed
+
 abbrev pub IsEntry : Classes → List Cell → ℕ → Sight → Entry → Type 0
 IsEntry classes cells row sight Unknown = Unit {0}
-IsEntry classes cells row sight (Quiet t) = IsTransition classes cells row sight t × IsQuiet cells t
+IsEntry classes cells row sight (Quiet t) = IsTransition classes cells row sight t × IsQuiet cells t × IsSorted t
+IsEntry classes cells row sight (Mixed t) = IsTransition classes cells row sight t × IsQuiet cells t
 IsEntry classes cells row sight (Matching t) = IsTransition classes cells row sight t × IsMatching cells t
 
 -- what the table has of a row and a column
@@ -54,12 +60,17 @@ IsSlot classes cells s = s.code ≢ nothing → (row : ℕ) (before : Side) → 
 -- Each entry of the table is such a step, on what is seen in its column.
 pub record AreTold (cells : List Cell) (table : Transitions) : Type 0 where
   pub quiet : (row column : ℕ) (sight : Sight) (t : Transition) → IsColumn table.classes sight column
-      → entry_at table row column ≡ Quiet t → IsTransition table.classes cells row sight t × IsQuiet cells t
+      → entry_at table row column ≡ Quiet t → IsTransition table.classes cells row sight t × IsQuiet cells t × IsSorted t
+  pub mixed : (row column : ℕ) (sight : Sight) (t : Transition) → IsColumn table.classes sight column
+      → entry_at table row column ≡ Mixed t → IsTransition table.classes cells row sight t × IsQuiet cells t
   pub matching : (row column : ℕ) (sight : Sight) (t : Transition) → IsColumn table.classes sight column
       → entry_at table row column ≡ Matching t → IsTransition table.classes cells row sight t × IsMatching cells t
   -- and so is each slot of a character, from each row whose columns begin there
   pub apart_quiet : (s : Slot) → IsIn table.slots.items.items s → s.code ≢ nothing → (row : ℕ) (before : Side) → number_of before < sides_of table.classes.tests
       → s.start ≡ row_start table.classes row before → (t : Transition) → s.entry ≡ Quiet t
+      → IsTransition table.classes cells row (slot_sight before s) t × IsQuiet cells t × IsSorted t
+  pub apart_mixed : (s : Slot) → IsIn table.slots.items.items s → s.code ≢ nothing → (row : ℕ) (before : Side) → number_of before < sides_of table.classes.tests
+      → s.start ≡ row_start table.classes row before → (t : Transition) → s.entry ≡ Mixed t
       → IsTransition table.classes cells row (slot_sight before s) t × IsQuiet cells t
   pub apart_matching : (s : Slot) → IsIn table.slots.items.items s → s.code ≢ nothing → (row : ℕ) (before : Side) → number_of before < sides_of table.classes.tests
       → s.start ≡ row_start table.classes row before → (t : Transition) → s.entry ≡ Matching t

@@ -242,7 +242,7 @@ fn computed(
     ensures ways { IfOk result (λ c. length c.came.items ≡ length step.next.items) }
 {
     let came = origins(alloc, &step.next)?;
-    let origin = origin_of(&came, step.matched, rows.lists[row].len());
+    let origin = origin_of(&came, step.matched, rows.lists[row].len(), &code.prefilter);
     let target = target_of(alloc, rows, code.start, &step.next)?;
     Ok(Cell {
         row,
@@ -319,7 +319,7 @@ fn told(cells: &Cells, row: usize, sight: Sight, byte: u8) -> Option<usize>
     let table = cells.table.view();
     match table.at(classes.start(row, sight.before), column) {
         Entry::Unknown => None,
-        Entry::Quiet(step) | Entry::Matching(step) => {
+        Entry::Quiet(step) | Entry::Mixed(step) | Entry::Matching(step) => {
             tested_cell(&cells.cells, Some(step.cell as usize), row, sight)
         }
     }
@@ -339,7 +339,7 @@ fn told_apart(cells: &Cells, row: usize, sight: Sight) -> Option<usize>
     let slot = slot_at(&cells.table.slots.items, start, code)?;
     match slot.entry {
         Entry::Unknown => None,
-        Entry::Quiet(step) | Entry::Matching(step) => {
+        Entry::Quiet(step) | Entry::Mixed(step) | Entry::Matching(step) => {
             tested_cell(&cells.cells, Some(step.cell as usize), row, sight)
         }
     }
@@ -390,8 +390,9 @@ fn entry_of(cells: &[Cell], k: usize, classes: &Classes) -> Entry
         origin: cell.origin,
     };
     match cell.matched {
-        None => Entry::Quiet(step),
         Some(_) => Entry::Matching(step),
+        None if matches!(cell.origin, Origin::Mixed) => Entry::Mixed(step),
+        None => Entry::Quiet(step),
     }
 }
 

@@ -4,6 +4,8 @@ ghost use Rattle.std.specs.Prelude.{◌≡◌, ◌<◌, IfSome, nat_eq, nat_lt, 
 ghost use Rattle.std.specs.List.{list_all};
 ghost use Rattle.fancy_states.specs.Origins.{ComeFrom};
 
+use fancy_prefilter::prefilter::{Anchor, Prefilter};
+
 /// Of which ways of its row those come that a step leads to, and the match that it finds.
 #[derive(Clone, Copy, PartialEq, Eq, Debug)]
 pub enum Origin {
@@ -29,15 +31,39 @@ fn are_all(numbers: &[usize], one: usize) -> bool
     numbers.iter().all(|number| *number == one)
 }
 
+/// Whether matches may begin with each of the commonest letters, so that a scan for places where they may would seldom go far.
+fn begin_often(prefilter: &Prefilter) -> bool {
+    match &prefilter.starts {
+        None => true,
+        Some(starts) => b"etaoin".iter().all(|letter| starts.contains(*letter)),
+    }
+}
+
+/// Whether a search is left to a scan where no way waits: where that finds starts of lines, or more than first bytes, or seldom a place.
+fn is_left_to_scan(prefilter: &Prefilter) -> bool {
+    match prefilter.anchor {
+        Anchor::AtStart | Anchor::AtLines(_) => true,
+        Anchor::Anywhere | Anchor::AtWords(_) => {
+            prefilter.scans_for_opening() || !begin_often(prefilter)
+        }
+    }
+}
+
 /// Of which of so many ways of a row those come that a step leads to, and the match that it finds. Where the one way of a row ends
-/// without a match, neither is told: there a walk ends in which no way waits at two places in a row.
-pub fn origin_of(came: &[usize], matched: Option<usize>, ways: usize) -> Origin
+/// without a match, and the search is left to a scan there, neither is told: there a walk ends in which no way waits at two places in a
+/// row.
+pub fn origin_of(
+    came: &[usize],
+    matched: Option<usize>,
+    ways: usize,
+    prefilter: &Prefilter,
+) -> Origin
     ensures { ComeFrom result ways came.now matched }
 {
     if ways == 0 {
         return Origin::Mixed;
     }
-    if ways == 1 && came.is_empty() && matched.is_none() {
+    if ways == 1 && came.is_empty() && matched.is_none() && is_left_to_scan(prefilter) {
         return Origin::Mixed;
     }
     let last = ways - 1;

@@ -38,8 +38,10 @@ pub struct Transition {
 pub enum Entry {
     /// The step is not remembered.
     Unknown,
-    /// The step, in which no way ended with an outcome.
+    /// The step, in which no way ended with an outcome, and it is told of which ways those come that go on.
     Quiet(Transition),
+    /// The step, in which no way ended with an outcome.
+    Mixed(Transition),
     /// The step, in which one may have.
     Matching(Transition),
 }

@@ -1,4 +1,4 @@
-use Rattle.std.proofs.Common.{◌∙◌, ap, arith, Bor, Option, option_map, ℕ, subst, sym, is_some}
+use Rattle.std.proofs.Common.{◌∙◌, ap, arith, inl, inr, Bor, Option, option_map, ℕ, subst, sym, is_some}
 use Rattle.fancy_automaton.specs.Decided.{Opens}
 use Rattle.fancy_automaton.specs.Sole.{came_to}
 use Rattle.fancy_states.specs.Transitions.{IsEntry}
@@ -6,7 +6,7 @@ use Rattle.fancy_states.specs.declared.transitions.Entry.{Entry}
 use Rattle.fancy_states.specs.declared.transitions.Transition.{Transition}
 use Rattle.fancy_automaton.proofs.WalkLemmas.{Walked, walked_found, walked_quiet}
 use Rattle.fancy_automaton.proofs.follow.lengthen.Goals as goal
-use Rattle.fancy_automaton.proofs.follow.lengthen.Goals.{in-Quiet, in-Matching}
+use Rattle.fancy_automaton.proofs.follow.lengthen.Goals.{in-Quiet, in-Quiet-2, in-Matching}
 
 pub places-preserved : goal.places-preserved
 places-preserved c =
@@ -22,7 +22,17 @@ places-preserved c =
       | in-Quiet w ↦ subst (λ (t : Transition). Walked a cells at past t c.places.end c.match-told.end) (sym (ap (λ (t : Bor Transition). t.now) w.step-is))
           (subst (λ (o : Option ℕ). Walked a cells at past w.in-Quiet.step c.places.end o) (sym w.end-is)
           (walked_quiet a cells at past seen.0 w.in-Quiet.step seen.1 c.requires.followed c.requires.kept c.places.invariant.row placed
-          (subst (λ (e : Entry). IsEntry cells.table.classes cells.cells.items at.next seen.0 e) w.in-Quiet.is seen.2) c.places.end))
+          (elim w.in-Quiet.is [
+            | inl quiet ↦ (let e = subst (λ (e : Entry). IsEntry cells.table.classes cells.cells.items at.next seen.0 e) quiet seen.2 in (e.0, e.1))
+            | inr mixed ↦ subst (λ (e : Entry). IsEntry cells.table.classes cells.cells.items at.next seen.0 e) mixed seen.2
+          ]) c.places.end))
+      | in-Quiet-2 w ↦ subst (λ (t : Transition). Walked a cells at past t c.places.end c.match-told.end) (sym (ap (λ (t : Bor Transition). t.now) w.step-is))
+          (subst (λ (o : Option ℕ). Walked a cells at past w.in-Quiet.step c.places.end o) (sym w.end-is)
+          (walked_quiet a cells at past seen.0 w.in-Quiet.step seen.1 c.requires.followed c.requires.kept c.places.invariant.row placed
+          (elim w.in-Quiet.is [
+            | inl quiet ↦ (let e = subst (λ (e : Entry). IsEntry cells.table.classes cells.cells.items at.next seen.0 e) quiet seen.2 in (e.0, e.1))
+            | inr mixed ↦ subst (λ (e : Entry). IsEntry cells.table.classes cells.cells.items at.next seen.0 e) mixed seen.2
+          ]) c.places.end))
       | in-Matching w ↦ subst (λ (t : Transition). Walked a cells at past t c.places.end c.match-told.end) (sym (ap (λ (t : Bor Transition). t.now) w.step-is))
           (subst (λ (o : Option ℕ). Walked a cells at past w.in-Matching.step c.places.end o) (sym w.end-is)
           (walked_found a cells at past seen.0 w.in-Matching.step seen.1 c.requires.followed c.requires.kept c.places.invariant.row placed
@@ -35,6 +45,7 @@ places-preserved c =
       forth = omega (arith, c.places.invariant.forth, seen.1.forth);
       found = λ some. elim c.match-told.branch [
         | in-Quiet w ↦ ap (λ (o : Option ℕ). is_some o) w.end-is ∙ c.places.invariant.found some
+        | in-Quiet-2 w ↦ ap (λ (o : Option ℕ). is_some o) w.end-is ∙ c.places.invariant.found some
         | in-Matching w ↦ ap (λ (o : Option ℕ). is_some o) w.end-is
       ];
       decided = λ goal is. walked.decided goal c.args.from.start (c.places.invariant.decided goal is);

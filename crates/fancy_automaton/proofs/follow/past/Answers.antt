@@ -29,8 +29,8 @@ returns c =
       forth = omega (arith, seen.1.forth, ap (λ (st : Stand). st.place) c.stand_after-2.ensures);
     }
 
-pub skip-requires-in-Quiet-clause-sole : goal.skip-requires-in-Quiet-clause-sole
-skip-requires-in-Quiet-clause-sole c =
+pub skip-requires-in-Some-clause-sole : goal.skip-requires-in-Some-clause-sole
+skip-requires-in-Some-clause-sole c =
     let a = c.args.attempt.now in
     let cells = c.args.cells.now in
     let at = c.args.at.stand in
@@ -38,6 +38,6 @@ skip-requires-in-Quiet-clause-sole c =
     let is = here.1 in
     let past = c.in_ok-told.told.past in
     let seen = c.in_ok-told.ensures.told cells at.begun c.view-table.ensures is.followed (record { bounded = is.kept; all = is.all }) is.good is.begins in
-    let told = subst (λ (e : Entry). IsEntry cells.table.classes cells.cells.items at.begun seen.0 e) c.in-Quiet.is seen.2 in
+    let told = c.in-Some.ensures cells at.begun seen.0 seen.2 in
     subst (λ (st : Stand). IsSole a cells (record { stand = st; start = at.place; end = None })) (sym c.stand_after.ensures)
-    (idle_sole a cells (stood past c.in-Quiet.step) c.args.idle at.place c.requires.idle c.if-step-idle.true (quiet_amid a cells at past seen.0 c.in-Quiet.step seen.1 here.0 _ is told))
+    (idle_sole a cells (stood past c.in-Some.step) c.args.idle at.place c.requires.idle c.if-step-idle.false (quiet_amid a cells at past seen.0 c.in-Some.step seen.1 here.0 _ is told))
