@@ -1,7 +1,8 @@
 -- What the ways find is the answer of the search.
 use Rattle.std.proofs.Common.{◌≡◌, ℕ, zero, suc, ◌+◌, ◌<◌, ◌≤◌, Bool, true, false, List, [], ◌∷◌, length, Option, Some, None, refl, sym, ap, ap₂, ◌∙◌, subst, arith, replicate}
-use Rattle.std.specs.Prelude.{slice_index, option_map, is_some, if◌then◌else◌}
+use Rattle.std.specs.Prelude.{slice_index, option_map, is_some, if◌then◌else◌, IfSome, ◌-◌, nat_lt}
 use Rattle.std.specs.Option.{option_or}
+use Rattle.std.proofs.lemmas.Bool.Decides.{nat_tests}
 use Rattle.std.proofs.lemmas.Option.{none-some}
 use Rattle.fancy_input.specs.declared.span.Span.{Span}
 use Rattle.fancy_code.specs.declared.code.Code.{Code}
@@ -96,6 +97,30 @@ found_as code span (Some f) k e = record {
   none = k.captures;
 }
 
+-- where an answer is, as its two ends tell
+some_ends : (s : ℕ) (o : Option Answer) → IfSome (option_map ends_of o) (λ e. s ≤ e.0) → IfSome o (λ f. s ≤ f.position)
+some_ends s None le = tt
+some_ends s (Some f) le = le
+
+-- where no answer is before a place, the positions from it on have it
+answered_ahead : (q : Query) (n p s : ℕ) → p ≤ s → s ≤ p + n → IfSome (answer_from q n p) (λ f. s ≤ f.position) → answer_from q (p + n - s) s ≡ answer_from q n p
+answered_ahead q zero p s low high begins = ap₂ (answer_from q) (omega (arith, low)) (omega (arith, low, high))
+answered_ahead q (suc n) p s low high begins = by (λ lt. answered_ahead q n (p + 1) s (omega (arith, lt)) (omega (arith, high))) (nat_lt p s) refl where
+  Later : Type 0
+  Later = p < s → IfSome (answer_from q n (p + 1)) (λ f. s ≤ f.position) → answer_from q (p + 1 + n - s) s ≡ answer_from q n (p + 1)
+
+  there : Later → p < s → (o : Option State) → answer_at q p ≡ o → answer_from q (p + suc n - s) s ≡ answer_from q (suc n) p
+  there later lt None e =
+      let next = search_miss q (suc n) n p refl e in
+      ap (λ (k : ℕ). answer_from q (k - s) s) (omega arith) ∙ later lt (subst (λ (o : Option Answer). IfSome o (λ f. s ≤ f.position)) next begins) ∙ sym next
+  there later lt (Some r) e =
+      let le : s ≤ p = subst (λ (o : Option Answer). IfSome o (λ f. s ≤ f.position)) (search_hit q (suc n) n p refl r e) begins in
+      absurd (omega (arith, lt, le))
+
+  by : Later → (b : Bool) → nat_lt p s ≡ b → answer_from q (p + suc n - s) s ≡ answer_from q (suc n) p
+  by later true lt = there later (grind (arith, nat_tests)) (answer_at q p) refl
+  by later false lt = let same : s ≡ p = grind (arith, nat_tests) in ap₂ (answer_from q) (omega (arith, same)) same
+
 module _ (q : Query) (code : Code) (is : IsCodeOf q.sought.pattern code) (groups : q.sought.groups ≡ code.groups) (meant : q.sought.meaning ≡ code.meaning)
     (only : q.sought.not_empty ≡ false) (first : q.sought.longest ≡ false) (inside : q.request.range_end ≤ length q.haystack)
     (x : Context) (here : Option ℕ) (same : x ≡ continued_at (context_of q) here) (plain : ArePlain (instrs_of code)) where
@@ -188,6 +213,13 @@ module _ (q : Query) (code : Code) (is : IsCodeOf q.sought.pattern code) (groups
     by next true may None e = rest next e
     by next true may (Some s) e = subst (IsWhole Whole (replicate code.groups None)) (sym (search_hit q (suc n) n p refl s e)) (whole_at p s (omega (arith, le)) may e)
     by next false may o e = rest next (search_skip q p first may)
+
+  -- where no match begins before a place, the positions from it on have the answer
+  pub passed : (n p s : ℕ) → p + n ≤ q.request.range_end + 1 → p ≤ s → s ≤ p + n
+      → IfSome (leftmost Good x q.request.range_end (instrs_of code) Deep code.start n p) (λ e. s ≤ e.0)
+      → answer_from q (p + n - s) s ≡ answer_from q n p
+  passed n p s within low high begins =
+      answered_ahead q n p s low high (some_ends s (answer_from q n p) (subst (λ (o : Option (ℕ × ℕ)). IfSome o (λ e. s ≤ e.0)) (leftmost_is n p within) begins))
 
   -- what was found by its ends, which are those of the leftmost match, is the answer of the search
   pub answered : (n p : ℕ) → p + n ≤ q.request.range_end + 1 → answer_from q n p ≡ search q → (found : Option Span)

@@ -1,4 +1,5 @@
 pub mod AnswerLemmas
+pub mod BeginLemmas
 pub mod GoingLemmas
 pub mod PlaceLemmas
 pub mod SteadyLemmas

@@ -1,6 +1,7 @@
 -- A walk in which no way begins any more: the match that is looked for begins at one place, if there is one.
-use Rattle.std.specs.Prelude.{◌≡◌, ◌+◌, ◌-◌, ◌≤◌, ◌<◌, ◌⊎◌, ℕ, true, List, [], ◌∷◌, ◌++◌, Option, None, Some, length, option_map, replicate}
+use Rattle.std.specs.Prelude.{◌≡◌, ◌+◌, ◌-◌, ◌≤◌, ◌<◌, ◌⊎◌, ℕ, true, List, [], ◌∷◌, ◌++◌, Option, None, Some, IfSome, length, option_map, replicate}
 use Rattle.fancy_input.specs.declared.span.Span.{Span}
+use Rattle.fancy_meaning.specs.Search.{Query, answer_from, search}
 use Rattle.fancy_code.specs.declared.attempt.Attempt.{Attempt}
 use Rattle.fancy_code.specs.Attempt.{context_in, instrs_in, may_end_in}
 use Rattle.fancy_alphabet.specs.Classes.{IsStart}
@@ -22,6 +23,14 @@ IsGoal a goal found = (deep : ℕ) → BegunIn a deep → option_map ends_in fou
 -- the leftmost match
 abbrev pub search_goal : Attempt → Goal
 search_goal a deep = leftmost_in a deep (a.last + 1 - a.base) a.base
+
+-- the leftmost match begins there or later, if there is one
+abbrev pub BeginsFrom : Attempt → ℕ → Type 0
+BeginsFrom a s = (deep : ℕ) → BegunIn a deep → IfSome (search_goal a deep) (λ e. s ≤ e.0)
+
+-- the positions from a place on have the answer of the search
+abbrev pub IsAnsweredFrom : Query → ℕ → Type 0
+IsAnsweredFrom q place = answer_from q (q.request.range_end + 1 - place) place ≡ search q
 
 -- the match of the attempt at the first place alone
 abbrev pub attempt_goal : Attempt → Goal

@@ -22,3 +22,4 @@ pub mod hop;
 pub mod search;
 pub mod sole;
 mod told;
+pub mod worth;

@@ -1,6 +1,6 @@
 //! Searches by the automaton: the match that the runner finds, without its groups.
 
-ghost use Rattle.std.specs.Prelude.{◌≡◌, ◌+◌, ◌-◌, ◌*◌, ◌≤◌, ℕ, Bool, None, if◌then◌else◌, true, IfOk, IfErr, IfSome, is_some, length, option_map};
+ghost use Rattle.std.specs.Prelude.{◌≡◌, ◌+◌, ◌-◌, ◌*◌, ◌≤◌, ℕ, Bool, None, if◌then◌else◌, true, false, IfOk, IfErr, IfSome, is_some, length, option_map};
 ghost use Rattle.fancy_tree.specs.Pattern.{Pattern};
 ghost use Rattle.fancy_input.specs.Requests.{effective_start};
 ghost use Rattle.fancy_code.specs.Code.{instrs_of};
@@ -15,8 +15,8 @@ ghost use Rattle.fancy_states.specs.Futures.{ArePlain};
 ghost use Rattle.fancy_states.specs.Search.{BegunIn, IsFoundAs, KeepsPlaces, at_position, ends_in, leftmost_in, IsFollowed};
 ghost use Rattle.fancy_states.specs.Counts.{AddsSteps};
 ghost use Rattle.fancy_states.specs.Trail.{match_from};
-ghost use Rattle.fancy_automaton.specs.Decided.{IsGoal, attempt_goal, search_goal};
-ghost use Rattle.fancy_automaton.specs.Sole.{IsSole};
+ghost use Rattle.fancy_automaton.specs.Decided.{BeginsFrom, IsAnsweredFrom, IsGoal, attempt_goal, search_goal};
+ghost use Rattle.fancy_automaton.specs.Sole.{IsSole, Reaches};
 
 use crate::anchored::{span_at, span_told};
 use crate::follow::{follow, follow_any, next_start};
@@ -115,6 +115,77 @@ fn told_end(attempt: &Attempt, cells: &Cells, at: Sole) -> Option<Option<Span>>
     }
 }
 
+/// The first place at which a match may begin, as far as remembered steps tell it.
+#[derive(Clone, Copy)]
+pub struct Candidate {
+    /// That place, a byte offset, past the end of the range where there is none.
+    pub told: usize,
+    /// How many bytes the steps told to have no match begin there that no scan tells.
+    pub passed: usize,
+}
+
+/// Takes steps that the table tells, from a place on at which a match may begin.
+#[inline(always)]
+fn walk(attempt: &Attempt, cells: &Cells, from: Sole) -> Sole
+    requires sole { IsSole attempt.now cells.now from }
+    ensures reaches { Reaches attempt.now cells.now from.stand.place result }
+{
+    let to = if is_wide_at(attempt, from.stand.place) {
+        from
+    } else {
+        follow(attempt, cells, from)
+    };
+    if to.is_over(cells) || !is_wide_at(attempt, to.stand.place) {
+        return to;
+    }
+    follow_any(attempt, cells, to)
+}
+
+/// The first place at which a match may begin, from where a walk ended: where its ways began, or if none waits and nothing was found, the
+/// next one; past the last place where there is none.
+#[inline(always)]
+fn first_start(attempt: &Attempt, cells: &Cells, at: Sole, region: &mut Option<usize>) -> usize
+    requires sole { IsSole attempt.now cells.now at }
+    ensures begins { BeginsFrom attempt.now result }
+    ensures ends { result ≤ attempt.now.last + 1 }
+{
+    let place = at.stand.place;
+    if at.is_idle(cells) {
+        return next_start(attempt, place, region);
+    }
+    at.start.min(place)
+}
+
+/// The first place at which a match may begin, as far as remembered steps tell it.
+#[inline(always)]
+fn first_told(attempt: &Attempt, cells: &mut Cells) -> Result<Candidate, AllocError>
+    requires ordered { attempt.now.base ≤ attempt.now.last }
+    requires followed { IsFollowed attempt.now }
+    requires kept { HoldsFor cells.old attempt.now.code.now }
+    ensures begins { IfOk result (λ c. BeginsFrom attempt.now c.told) }
+    ensures ends { IfOk result (λ c. c.told ≤ attempt.now.last + 1) }
+    ensures kept { HoldsFor cells.new attempt.now.code.now }
+{
+    let mut region = None;
+    let scanned = next_start(attempt, attempt.base, &mut region);
+    if scanned > attempt.last {
+        cells.reached = scanned;
+        return Ok(Candidate {
+            told: scanned,
+            passed: 0,
+        });
+    }
+    let origin = origin(attempt.code, cells)?;
+    let from = Sole::new(attempt, cells, origin, scanned);
+    let to = walk(attempt, cells, from);
+    let told = first_start(attempt, cells, to, &mut region);
+    cells.reached = to.stand.place;
+    Ok(Candidate {
+        told,
+        passed: told.saturating_sub(scanned),
+    })
+}
+
 /// Where the leftmost match within the bounds begins and ends that is preferred there, if there is one.
 #[inline(always)]
 fn find_span(
@@ -141,13 +212,8 @@ fn find_span(
         return Ok(None);
     }
     let origin = origin(attempt.code, cells)?;
-    let mut to = Sole::new(attempt, cells, origin, place);
-    if !is_wide_at(attempt, place) {
-        to = follow(attempt, cells, to);
-    }
-    if is_wide_at(attempt, to.stand.place) && !to.is_over(cells) {
-        to = follow_any(attempt, cells, to);
-    }
+    let from = Sole::new(attempt, cells, origin, place);
+    let to = walk(attempt, cells, from);
     if to.is_over(cells) {
         cells.reached = to.stand.place;
         return Ok(span_from(to.start, to.end));
@@ -246,6 +312,56 @@ pub fn find(
     };
     let found = span_in(&attempt, request.anchored, cells, work)?;
     Ok(found_by(found))
+}
+
+/// Where a match may begin that is asked for, as far as steps tell it that `cells` remembers. No step is computed.
+///
+/// # Errors
+///
+/// `SearchRefusal::Memory` where memory runs out, and no other.
+#[inline(always)]
+pub fn find_candidate(
+    code: &Code,
+    haystack: &[u8],
+    request: Request,
+    options: SearchOptions,
+    cells: &mut Cells,
+) -> Result<Candidate, SearchRefusal>
+    requires inside { request.range_end ≤ length haystack.now }
+    requires unanchored { request.anchored ≡ false }
+    requires plain { ArePlain (instrs_of code.now) }
+    requires reads { KeepsPlaces haystack.now code.now.meaning options.on_boundaries }
+    requires kept { IsBounded cells.old }
+    requires all { IsFor cells.old code.now }
+    ensures answer { IfOk result (λ c. (p : Pattern) (on : Bool) → IsCodeOf p code.now
+        → IsAnsweredFrom
+        (query_of p code.now (unfiltered options) haystack.now request on) c.told) }
+    ensures forth { IfOk result (λ c. effective_start request ≤ c.told) }
+    ensures kept { IsBounded cells.new }
+    ensures all { IsFor cells.new code.now }
+    ensures refused { IfErr result (λ e. e ≡ SearchRefusal.Memory) }
+{
+    let first = request.effective_start();
+    if first > request.range_end {
+        return Ok(Candidate {
+            told: first,
+            passed: 0,
+        });
+    }
+    let attempt = Attempt {
+        code,
+        haystack,
+        base: first,
+        last: request.range_end,
+        on_boundaries: options.on_boundaries,
+        suppressed: options.suppressed_ends(request),
+        step_limit: None,
+    };
+    let candidate = first_told(&attempt, cells)?;
+    Ok(Candidate {
+        told: candidate.told.max(first),
+        ..candidate
+    })
 }
 
 /// The match that [`find`] finds for an anchored request, as far as steps tell it that `cells` remembers. `None` where they do not,

@@ -56,4 +56,13 @@ impl Sole {
     {
         self.end.is_some() && cells.rows.lists[self.stand.next].len() == 0
     }
+
+    /// Whether nothing was found, and no way waits.
+    pub(crate) fn is_idle(self, cells: &Cells) -> bool
+        requires { self.stand.next < length cells.now.rows.lists.items }
+        ensures nothing { result ≡ true → self.end ≡ None }
+        ensures idle { result ≡ true → ways_at cells.now.rows.lists.items self.stand.next ≡ [] }
+    {
+        self.end.is_none() && cells.rows.lists[self.stand.next].len() == 0
+    }
 }

@@ -1,9 +1,11 @@
 -- A search that goes on: from a later position on it answers as the whole one, where nothing was found before.
-use Rattle.std.proofs.Common.{◌≡◌, ◌+◌, ◌-◌, ◌*◌, ◌≤◌, ◌∙◌, ℕ, zero, suc, Bool, true, false, List, Option, Some, None, IfNone, length, refl, sym, subst, ap, ap₂, arith, true≢false}
-use Rattle.std.specs.Prelude.{is_some, option_map}
+use Rattle.std.proofs.Common.{◌≡◌, ◌+◌, ◌-◌, ◌*◌, ◌≤◌, ◌<◌, ◌∙◌, ℕ, zero, suc, Bool, true, false, List, Option, Some, None, IfNone, length, refl, sym, subst, ap, ap₂, arith, true≢false}
+use Rattle.std.specs.Prelude.{is_some, min, option_map}
 use Rattle.std.specs.Option.{option_or}
 use Rattle.fancy_input.specs.Requests.{effective_start, positions}
 use Rattle.fancy_input.specs.declared.input.Request.{Request}
+use Rattle.fancy_input.specs.Work.{HasWorkFor}
+use Rattle.fancy_input.specs.declared.work.Work.{Work}
 use Rattle.fancy_input.specs.declared.span.Span.{Span}
 use Rattle.fancy_meaning.specs.Context.{State}
 use Rattle.fancy_meaning.specs.Search.{Query, Answer, answer_at, answer_from, context_of, is_match_boundary, search}
@@ -15,6 +17,8 @@ use Rattle.fancy_code.specs.declared.code.Code.{Code}
 use Rattle.fancy_code.specs.declared.found.Found.{Found}
 use Rattle.fancy_code.proofs.ClassifyLemmas.{easy_code}
 use Rattle.fancy_code.proofs.PositionLemmas.{attempt_answer, first_thread, search_skip}
+use Rattle.fancy_automaton.specs.Decided.{IsAnsweredFrom}
+use Rattle.fancy_meaning.specs.Tried.{NoneTried}
 use Rattle.fancy_runner.specs.KeptTable.{past_tried}
 use Rattle.fancy_runner.specs.Searched.{IsAnsweredBy, answer_past}
 use Rattle.fancy_runner.specs.declared.search.Searched.{Searched}
@@ -93,3 +97,39 @@ pub paid_before : (n first place past before after : ℕ) → first ≤ place �
 paid_before n first place past before after low high paid =
     let whole : past - first ≡ (place - first) + (past - place) = omega (arith, low, high) in
     omega (arith, paid, ap (λ (k : ℕ). n * k) whole)
+
+-- fewer are those of the positions from a place on
+pub fewer_from : (n first place past : ℕ) → first ≤ place → n * (past - place) ≤ n * (past - first)
+fewer_from n first place past le =
+    let whole : past - first ≡ (past - place) + ((past - first) - (past - place)) = omega (arith, le) in
+    omega (arith, ap (λ (k : ℕ). n * k) whole)
+
+-- a limit that allows so many steps allows fewer
+pub work_for_fewer : (limit : Option ℕ) (more fewer : ℕ) (w : Work) → fewer ≤ more → HasWorkFor limit more w → HasWorkFor limit fewer w
+work_for_fewer None more fewer w le for = tt
+work_for_fewer (Some most) more fewer w le for = omega (arith, le, for)
+
+-- the steps up to a place, and as many as are left after it, are no more than all
+pub left_after : (n first end range_end cut before after taken : ℕ) → first ≤ end → cut ≡ min end range_end → after ≤ before + n * (cut + 1 - first) → taken ≤ n * (range_end - end)
+    → taken + after ≤ before + n * (range_end + 1 - first)
+left_after n first end range_end cut before after taken le is one two =
+    let whole : range_end + 1 - first ≡ (range_end - end) + (cut + 1 - first) = omega (arith, le, is) in
+    omega (arith, one, two, ap (λ (k : ℕ). n * k) whole)
+
+-- what is asked from a place on, where no match begins before it
+module _ (r : Program) (haystack : List ℕ) (request : Request) (place : ℕ) (from : effective_start request ≤ place) where
+  -- no position is tried of it where none is of the whole
+  pub rest_untried : (seek on : Bool) → NoneTried seek (asked_of r haystack request on) → NoneTried seek (asked_of r haystack (record request { start = place }) on)
+  rest_untried seek on none p low high = none p (omega (arith, from, low)) high
+
+  -- it has the answer of the whole
+  pub rest_same : (on later : Bool) → program_is_easy r ≡ true → request.range_end ≤ length haystack → request.anchored ≡ false → place ≤ request.range_end
+      → IsAnsweredFrom (asked_of r haystack request on) place
+      → search (asked_of r haystack (record request { start = place }) later) ≡ search (asked_of r haystack request on)
+  rest_same on later easy inside free to is =
+      later_search r haystack request place on later easy inside free from to
+      ∙ ap (λ (k : ℕ). answer_from (asked_of r haystack request on) k place) (rw free (omega (arith, from, to))) ∙ is
+
+-- past the last place nothing is found
+pub rest_none : (q : Query) (place : ℕ) → q.request.range_end < place → IsAnsweredFrom q place → search q ≡ None
+rest_none q place past is = sym is ∙ search_over q (q.request.range_end + 1 - place) place (omega (arith, past))

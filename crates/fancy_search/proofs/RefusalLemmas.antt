@@ -21,6 +21,16 @@ pub spent_some : (limit : Option ℕ) (w : Work) → IsSpent limit w → is_some
 spent_some None w spent = absurd spent
 spent_some (Some most) w spent = refl
 
+-- where it is not out of steps, an easy search is refused for want of memory alone
+pub only_memory : {A : Type 0} (r : Program) (e : Error) → RefusesEasy r e → (IsOutOfSteps {A = A} (Err e) → ⊥) → e ≡ error.Memory
+only_memory r error.Memory is steps = refl
+only_memory r (ParseError at kind) is steps = absurd is
+only_memory r (CompileError why) is steps = absurd is
+only_memory r (RuntimeError BacktrackLimitExceeded) is steps = absurd is
+only_memory r (RuntimeError StackOverflow) is steps = absurd is
+only_memory r (RuntimeError StepLimitExceeded) is steps = absurd (steps refl)
+only_memory r (RuntimeError (Unmatched place)) is steps = absurd is
+
 -- a hard search is refused for what the machine refuses it for
 pub refuses_hard : (r : Program) (q : Query) (w : Work) (why : SearchRefusal) → IsHardProgram r
     → (why ≡ Returns → program_limit r < returns_taken r q) → (why ≡ Choices → program_stack_limit r < choices_in r q)

@@ -18,6 +18,7 @@ use Rattle.fancy_search.specs.declared.program.Program.{Program}
 pub record IsRestOf (r : Program) (haystack : List ℕ) (request rest : Request) (before after : Work) : Type 0 where
   pub same : (on later : Bool) → search (asked_of r haystack rest later) ≡ search (asked_of r haystack request on)
   pub ends : rest.range_end ≡ request.range_end
+  pub free : rest.anchored ≡ request.anchored
   pub paid : steps_of after + step_bound r rest ≤ steps_of before + step_bound r request
   pub units : units_of after ≡ units_of before
   pub tried : (on : Bool) → NoneTried (program_options r).seek (asked_of r haystack request on) → ⊥

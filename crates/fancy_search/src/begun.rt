@@ -1,5 +1,9 @@
-//! What the runner comes to in a search that it begins and the automaton may go on with.
+//! What the runner comes to in a search that it begins and the automaton may go on with, or that the automaton leads.
 
+ghost use Rattle.std.specs.Prelude.{◌≡◌, None};
+
+use crate::cache::Kept;
+use fancy_automaton::search::Candidate;
 use fancy_code::found::Found;
 use fancy_input::input::Request;
 
@@ -9,4 +13,36 @@ pub(crate) enum Begun {
     Ended(Option<Found>),
     /// Nothing so far: this is still to be searched for.
     Left(Request),
+}
+
+/// What a search came to that the automaton led.
+#[derive(Clone, Copy)]
+pub(crate) struct Led {
+    /// What was found.
+    pub(crate) found: Option<Found>,
+    /// What is kept for the next search.
+    pub(crate) kept: Kept,
+}
+
+impl Led {
+    /// Nothing was found, and the steps are kept.
+    pub(crate) fn nothing() -> Led
+        ensures { result ≡ record { found = None; kept = Kept.Steps } }
+    {
+        Led {
+            found: None,
+            kept: Kept::Steps,
+        }
+    }
+}
+
+/// The attempts by the runner in a search that the automaton led, up to a match.
+#[derive(Clone, Copy)]
+pub(crate) struct Attempts {
+    /// Where they began.
+    pub(crate) from: Candidate,
+    /// The match.
+    pub(crate) found: Found,
+    /// How many steps they took.
+    pub(crate) steps: usize,
 }

@@ -18,6 +18,12 @@ use std::alloc::{AllocError, Global};
 /// So many bytes past the end of its match a search may read, and it is not noted how far it read.
 const NEAR: usize = 8;
 
+/// For how many bytes that are read twice a byte makes up that is passed over.
+const PASSED: usize = 8;
+
+/// Steps lead the runner no more once so many more bytes were read twice than were made up for.
+const MOST_IN_VAIN: usize = 4096;
+
 /// Which engine served a search.
 #[derive(Clone, Copy, PartialEq, Eq)]
 pub enum Engine {
@@ -91,10 +97,13 @@ impl Kept {
 pub struct RememberedSteps {
     pub(crate) cells: Cells,
     read: ReadPast,
+    /// How many more bytes were read twice than were passed over, where these steps lead the runner, at the least.
+    vain: usize,
 }
 
 impl RememberedSteps {
     ghost use Rattle.fancy_search.specs.StepsOf.{AreStepsOf};
+    ghost use Rattle.fancy_search.specs.KeptTables.{keeps_no_table};
 
     /// None is remembered yet.
     pub(crate) fn new(alloc: Global) -> Result<Box<RememberedSteps>, AllocError>
@@ -105,6 +114,7 @@ impl RememberedSteps {
         let steps = RememberedSteps {
             cells,
             read: ReadPast::new(0),
+            vain: 0,
         };
         Ok(Box::new(alloc, steps)?)
     }
@@ -129,6 +139,21 @@ impl RememberedSteps {
         }
         self.read.add(past);
         self.read.is_little_before(end)
+    }
+
+    /// What is kept after a search that they led, whose match ends at `end`, a byte offset: so many bytes were passed over, and so many read
+    /// twice, or as many steps taken that they saved none of.
+    pub(crate) fn lead_on(&mut self, end: usize, passed: usize, twice: usize) -> Kept
+        ensures cells { self.new.cells ≡ self.old.cells }
+        ensures left { keeps_no_table result ≡ true }
+    {
+        let made_up = passed.saturating_mul(PASSED);
+        self.vain = self.vain.saturating_sub(made_up).saturating_add(twice);
+        if self.serve_on(end) && self.vain < MOST_IN_VAIN {
+            Kept::Steps
+        } else {
+            Kept::Runner(None)
+        }
     }
 }
 

@@ -5,7 +5,6 @@ pub mod asked;
 mod begun;
 pub mod byte_sets;
 pub mod cache;
-mod following;
 pub mod groups;
 mod one_item;
 pub mod options;

@@ -12,7 +12,7 @@ use fancy_code::code::{Code, MATCH};
 const MOST: usize = 16;
 
 /// Whether an instruction reads one item, or tests the place, after which a match is found.
-pub(crate) fn reads_one(code: &Code, at: usize) -> bool
+fn reads_one(code: &Code, at: usize) -> bool
     ensures { result ≡ true → IsOneItem (instr_at (instrs_of code.now) at) }
 {
     match after_part(code, at) {

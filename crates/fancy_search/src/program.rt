@@ -1,6 +1,6 @@
 //! A compiled pattern: the code that is searched with, and what decides how.
 
-ghost use Rattle.std.specs.Prelude.{◌≡◌, ◌≤◌, ◌<◌, ◌+◌, ◌-◌, ◌*◌, ◌^◌, ℕ, replicate, Bool, List, Option, None, Some, IfOk, IfErr, IfSome, IfNone, IsUtf8, chars, is_some, true, false, length, string_bytes};
+ghost use Rattle.std.specs.Prelude.{◌⊎◌, ◌≡◌, ◌≤◌, ◌<◌, ◌+◌, ◌-◌, ◌*◌, ◌^◌, ℕ, replicate, Bool, List, Option, None, Some, IfOk, IfErr, IfSome, IfNone, IsUtf8, chars, is_some, true, false, length, string_bytes};
 ghost use Rattle.std.specs.Option.{ForSome};
 ghost use Rattle.fancy_tree.specs.Pattern.{Pattern, pattern_of};
 ghost use Rattle.fancy_tree.specs.GroupNames.{names_of};
@@ -40,14 +40,17 @@ ghost use Rattle.fancy_search.specs.Straight.{past_end, straight_end};
 ghost use Rattle.fancy_search.specs.declared.straight.StraightEnd.TheVariants.{Loop};
 
 use crate::asked::Asked;
-use crate::begun::Begun;
+use crate::begun::{Attempts, Begun, Led};
 use crate::cache::{AttemptCache, AttemptNotes, Cache, Engine, Kept, RememberedSteps};
-use crate::following::{LEAST_WORTH, MOST_WORTH, SEARCH, TABLE, WORTH, leaps, least_steps};
 use crate::one_item::is_one_item;
 use crate::options::Options;
 use crate::step_pool::StepPool;
-use crate::straight::{StraightEnd, past_straight, past_turns, straight_end};
+use crate::straight::{StraightEnd, is_item_or_run, past_straight, past_turns, straight_end};
 use fancy_automaton::search as automaton;
+use fancy_automaton::worth::{
+    LEAST_WORTH, MOST_TRIED, MOST_WORTH, SEARCH, TABLE, WORTH, leaps, least_steps, may_lead,
+    saved_steps,
+};
 use fancy_bytes::lacking::{KnownBytes, RequiredBytes};
 use fancy_code::code::Code;
 use fancy_code::compile::compile;
@@ -229,7 +232,11 @@ impl Program {
         let straight = straight_end(&code);
         let plain = is_plain(&code);
         let ungrouped = ends_no_group(&code);
-        let least_steps = least_steps(&code);
+        let least_steps = if is_item_or_run(&code) {
+            None
+        } else {
+            least_steps(&code)
+        };
         let required = RequiredBytes::new(alloc, &tree, options.meaning())?;
         let prices = prices_of(alloc, &code, easy)?;
         let text = String::from_str(alloc, pattern)?;
@@ -529,15 +536,15 @@ impl Program {
     {
         if self.is_followed(asked, kept) && self.allows_all_steps(*asked.request, work) {
             if kept.is_steps()
+                && !self.is_led(asked)
                 && let Some(steps) = &mut cache.steps
             {
                 cache.served = self.without_groups();
                 return self.follow(asked.haystack, *asked.request, kept, steps, work);
             }
-            // a copy is lent, so that the other has no address
-            let mut left = *kept;
-            let (haystack, request) = (asked.haystack, *asked.request);
-            let found = self.search_followed(haystack, request, &mut left, cache, work);
+            // copies are lent, so that the others have no address
+            let (asked, mut left) = (*asked, *kept);
+            let found = self.search_followed(&asked, &mut left, cache, work);
             *kept = left;
             return found;
         }
@@ -556,9 +563,103 @@ impl Program {
     }
 
     /// A search of a list for an easy pattern where the automaton may serve: by the runner as long as its patience lasts, and then by the
-    /// automaton.
+    /// automaton, or where groups are asked, by the runner once more, which the automaton leads.
     #[inline(never)]
     fn search_followed(
+        &self,
+        asked: &Asked<'_>,
+        kept: &mut Kept,
+        cache: &mut Cache,
+        work: &mut Work,
+    ) -> Result<Option<Found>>
+        requires followable { IsFollowable self.now asked.now.haystack.now asked.now.request.now }
+        requires unanchored { asked.now.request.now.anchored ≡ false }
+        requires room { HasRoomFor self.now asked.now.request.now work.old }
+        requires allowed { AllowsAllSteps self.now asked.now.request.now work.old }
+        requires kept { is_steps kept.old ≡ true → HoldsSteps self.now cache.old.steps }
+        ensures answer { IfOk result (λ m. (on : Bool)
+            → IsAnswerIn m cache.new (asked_of self.now asked.now.haystack.now asked.now.request.now on)) }
+        ensures held { asked.now.groups ≡ true
+            → IfFound result (λ _. holds_groups cache.new.served ≡ true) }
+        ensures counts { KeepsCounts self.now result work.old work.new }
+        ensures idle { (on : Bool) → NoneTried (program_options self.now).seek
+            (asked_of self.now asked.now.haystack.now asked.now.request.now on)
+            → steps_of work.new ≡ steps_of work.old }
+        ensures kept { IfOk result (λ _. is_steps kept.new ≡ true
+            → HoldsSteps self.now cache.new.steps) }
+        ensures left { IfOk result (λ _. keeps_no_table kept.new ≡ true) }
+        ensures bounded { steps_of work.new
+            ≤ steps_of work.old + step_bound self.now asked.now.request.now }
+        ensures refused { IfErr result (λ e. e ≡ Error.Memory) }
+        ensures apart { cache.new.machine ≡ cache.old.machine }
+    {
+        let haystack = asked.haystack;
+        let mut request = *asked.request;
+        if let Some(patience) = self.patience(*kept, request) {
+            let before = work.steps();
+            cache.served = Engine::Runner;
+            match self.begin(haystack, request, patience, &mut cache.runner, work)? {
+                Begun::Ended(found) => {
+                    let taken = (work.steps() - before).saturating_add(SEARCH);
+                    *kept = self.kept_after(asked, found, patience, taken);
+                    return Ok(found);
+                }
+                Begun::Left(rest) => request = rest,
+            }
+        }
+        if self.is_led(asked) {
+            return self.search_led(haystack, request, kept, cache, work);
+        }
+        cache.served = self.without_groups();
+        let first = request.effective_start();
+        let mut steps = self.steps_for(*kept, cache.steps.take(), haystack.len(), first)?;
+        let found = self.follow(haystack, request, kept, &mut steps, work);
+        cache.steps = Some(steps);
+        found
+    }
+
+    /// Whether the automaton only leads where it serves, since groups are asked that the code ends.
+    #[inline(always)]
+    fn is_led(&self, asked: &Asked<'_>) -> bool
+        ensures { result ≡ false → asked.now.groups ≡ true → self.now.ungrouped ≡ true }
+    {
+        asked.groups && !self.ungrouped
+    }
+
+    /// What is kept after a search of a list by the runner that took so many steps: its patience. Where groups are asked, only those steps
+    /// count that the automaton may have saved; where these are few of many, the runner serves alone from then on.
+    fn kept_after(
+        &self,
+        asked: &Asked<'_>,
+        found: Option<Found>,
+        patience: Patience,
+        taken: usize,
+    ) -> Kept
+        ensures left { keeps_no_table result ≡ true }
+        ensures steps { is_steps result ≡ false }
+    {
+        let after = patience.after(taken);
+        if !self.is_led(asked) {
+            self.pool.spend(taken);
+            return Kept::Begun(after);
+        }
+        let (haystack, request) = (asked.haystack, *asked.request);
+        let saved = saved_steps(&self.code.prefilter, haystack, request, found, taken);
+        self.pool.spend(saved);
+        let others = taken.saturating_sub(saved);
+        let after = Patience {
+            steps: after.steps.saturating_add(others),
+            ..after
+        };
+        if after.taken > MOST_TRIED && after.taken < after.steps {
+            return Kept::Runner(None);
+        }
+        Kept::Begun(after)
+    }
+
+    /// A search for an easy pattern whose groups are asked: by the runner, which begins where the automaton tells it.
+    #[inline(never)]
+    fn search_led(
         &self,
         haystack: &[u8],
         request: Request,
@@ -568,13 +669,12 @@ impl Program {
     ) -> Result<Option<Found>>
         requires followable { IsFollowable self.now haystack.now request }
         requires unanchored { request.anchored ≡ false }
-        requires room { HasRoomFor self.now request work.old }
+        requires paired { returns_of work.old ≤ steps_of work.old }
         requires allowed { AllowsAllSteps self.now request work.old }
         requires kept { is_steps kept.old ≡ true → HoldsSteps self.now cache.old.steps }
         ensures answer { IfOk result (λ m. (on : Bool)
             → IsAnswerIn m cache.new (asked_of self.now haystack.now request on)) }
-        ensures held { self.now.ungrouped ≡ true
-            → IfFound result (λ _. holds_groups cache.new.served ≡ true) }
+        ensures held { IfFound result (λ _. holds_groups cache.new.served ≡ true) }
         ensures counts { KeepsCounts self.now result work.old work.new }
         ensures idle { (on : Bool) → NoneTried (program_options self.now).seek
             (asked_of self.now haystack.now request on) → steps_of work.new ≡ steps_of work.old }
@@ -585,25 +685,118 @@ impl Program {
         ensures refused { IfErr result (λ e. e ≡ Error.Memory) }
         ensures apart { cache.new.machine ≡ cache.old.machine }
     {
-        let mut request = request;
-        if let Some(patience) = self.patience(*kept, request) {
-            let before = work.steps();
-            cache.served = Engine::Runner;
-            match self.begin(haystack, request, patience, &mut cache.runner, work)? {
-                Begun::Ended(found) => {
-                    let taken = (work.steps() - before).saturating_add(SEARCH);
-                    *kept = Kept::Begun(patience.after(taken));
-                    return Ok(found);
-                }
-                Begun::Left(rest) => request = rest,
-            }
-        }
-        cache.served = self.without_groups();
         let first = request.effective_start();
         let mut steps = self.steps_for(*kept, cache.steps.take(), haystack.len(), first)?;
-        let found = self.follow(haystack, request, kept, &mut steps, work);
+        cache.served = Engine::Runner;
+        let led = self.run_led(haystack, request, &mut steps, &mut cache.runner, work)?;
         cache.steps = Some(steps);
-        found
+        *kept = led.kept;
+        Ok(led.found)
+    }
+
+    /// The same search, with these steps: they tell where the runner begins.
+    fn run_led(
+        &self,
+        haystack: &[u8],
+        request: Request,
+        steps: &mut RememberedSteps,
+        cache: &mut runner::Cache,
+        work: &mut Work,
+    ) -> Result<Led>
+        requires followable { IsFollowable self.now haystack.now request }
+        requires unanchored { request.anchored ≡ false }
+        requires paired { returns_of work.old ≤ steps_of work.old }
+        requires allowed { AllowsAllSteps self.now request work.old }
+        requires kept { AreStepsOf self.now.code steps.old }
+        ensures answer { IfOk result (λ led. (on : Bool) → answer_with (groups_in cache.new) led.found
+            ≡ search (asked_of self.now haystack.now request on)) }
+        ensures counts { KeepsCounts self.now result work.old work.new }
+        ensures idle { (on : Bool) → NoneTried (program_options self.now).seek
+            (asked_of self.now haystack.now request on) → steps_of work.new ≡ steps_of work.old }
+        ensures kept { AreStepsOf self.now.code steps.new }
+        ensures left { IfOk result (λ led. keeps_no_table led.kept ≡ true) }
+        ensures bounded { steps_of work.new ≤ steps_of work.old + step_bound self.now request }
+        ensures refused { IfErr result (λ e. e ≡ Error.Memory) }
+    {
+        let options = self.options.for_search();
+        let cells = &mut steps.cells;
+        let Ok(from) = automaton::find_candidate(&self.code, haystack, request, options, cells)
+        else {
+            return Err(Error::Memory);
+        };
+        if from.told > request.range_end {
+            return Ok(Led::nothing());
+        }
+        let rest = Request {
+            start: from.told,
+            ..request
+        };
+        let before = work.steps();
+        let mut table = None;
+        let Some(found) = self.run(haystack, &rest, &mut table, cache, work)? else {
+            return Ok(Led::nothing());
+        };
+        let attempts = Attempts {
+            from,
+            found,
+            steps: work.steps() - before,
+        };
+        let kept = self.learn(haystack, request, attempts, steps, work)?;
+        Ok(Led {
+            found: Some(found),
+            kept,
+        })
+    }
+
+    /// What is kept after a match was found from where the steps told. Where they did not tell where it begins, those up to its end are
+    /// computed for later searches, if that takes no more steps than are left of what a search may take.
+    fn learn(
+        &self,
+        haystack: &[u8],
+        request: Request,
+        attempts: Attempts,
+        steps: &mut RememberedSteps,
+        work: &mut Work,
+    ) -> Result<Kept>
+        requires followable { IsFollowable self.now haystack.now request }
+        requires ordered { effective_start request ≤ attempts.found.end }
+        requires kept { AreStepsOf self.now.code steps.old }
+        ensures kept { AreStepsOf self.now.code steps.new }
+        ensures left { IfOk result (λ k. keeps_no_table k ≡ true) }
+        ensures steps { steps_of work.old ≤ steps_of work.new }
+        ensures bounded { (steps_of work.new ≡ steps_of work.old) ⊎ (attempts.steps + steps_of work.new
+            ≤ steps_of work.old + step_bound self.now request) }
+        ensures returns { returns_of work.new ≡ returns_of work.old }
+        ensures units { units_of work.new ≡ units_of work.old }
+        ensures refused { IfErr result (λ e. e ≡ Error.Memory) }
+    {
+        let Attempts {
+            from,
+            found,
+            steps: taken,
+        } = attempts;
+        if found.position == from.told {
+            let twice = found.end.saturating_sub(from.told);
+            return Ok(steps.lead_on(found.end, from.passed, twice));
+        }
+        let places = request.range_end.saturating_sub(found.end);
+        if taken > self.code.len().saturating_mul(places) {
+            return Ok(Kept::Steps);
+        }
+        let part = Request {
+            range_end: found.end.min(request.range_end),
+            ..request
+        };
+        let options = self.options.for_search();
+        let reached = work.steps();
+        let cells = &mut steps.cells;
+        if automaton::find(&self.code, haystack, part, options, cells, work).is_err() {
+            return Err(Error::Memory);
+        }
+        if work.steps() > reached {
+            return Ok(Kept::Steps);
+        }
+        Ok(steps.lead_on(found.end, 0, taken))
     }
 
     /// What the automaton serves as, which tells no group: none takes part where the code ends none, and else they are not asked.
@@ -791,8 +984,8 @@ impl Program {
         self.keeps_places(text)
     }
 
-    /// Whether the automaton serves a search: where it follows the code, no group is to be told, the search is not anchored, and it is
-    /// worth its steps.
+    /// Whether the automaton serves a search, or leads it where groups are asked: where it follows the code, the search is not anchored, and
+    /// it is worth its steps.
     #[inline(always)]
     fn is_followed(&self, asked: &Asked<'_>, kept: &Kept) -> bool
         ensures plain { result ≡ true → ArePlain (instrs_of self.now.code) }
@@ -800,12 +993,11 @@ impl Program {
             (search_options self.now.options).on_boundaries }
         ensures none { result ≡ true → table_kept kept.now ≡ None }
         ensures unanchored { result ≡ true → asked.now.request.now.anchored ≡ false }
-        ensures told { result ≡ true → asked.now.groups ≡ true → self.now.ungrouped ≡ true }
     {
         let Some(least) = self.least_steps else {
             return false;
         };
-        if asked.groups && !self.ungrouped {
+        if self.is_led(asked) && !may_lead(&self.code.prefilter) {
             return false;
         }
         if asked.request.anchored || !kept.may_be_followed() {
@@ -869,14 +1061,11 @@ impl Program {
     pub(crate) fn leave(&self, kept: Kept, held: &mut Option<Box<RememberedSteps>>)
         requires kept { is_steps kept ≡ true → HoldsSteps self.now held.old }
     {
-        match kept {
-            Kept::Begun(patience) => self.pool.spend(patience.taken),
-            Kept::Steps => {
-                if let Some(steps) = held.take() {
-                    self.pool.leave(steps);
-                }
-            }
-            _ => {}
+        if !kept.is_steps() {
+            return;
+        }
+        if let Some(steps) = held.take() {
+            self.pool.leave(steps);
         }
     }
 
@@ -1149,6 +1338,7 @@ impl Program {
         let before = work.steps();
         let found = self.attempt_at(asked, position, notes, cache, work);
         let taken = (work.steps() - before).saturating_add(SEARCH);
+        self.pool.spend(taken);
         notes.kept = Kept::Begun(patience.after(taken));
         found
     }
@@ -1368,7 +1558,7 @@ impl Program {
     ) -> Result<Option<Found>>
         requires inside { request.now.range_end ≤ length haystack.now }
         requires easy { program_is_easy self.now ≡ true }
-        requires room { HasRoomFor self.now request.now work.old }
+        requires paired { returns_of work.old ≤ steps_of work.old }
         requires kept { IfSome kept.old (λ k. KeepsTable
             self.now haystack.now request.now k (effective_start request.now) cache.old) }
         ensures answer { IfOk result (λ m. (on : Bool)

@@ -243,12 +243,16 @@ pub(crate) fn straight_end(code: &Code) -> Option<StraightEnd>
     Some(StraightEnd::AtMatch)
 }
 
-/// Whether code is one item and then a loop round one, as `[a-z]+` and `#.*` are.
-pub(crate) fn is_run(code: &Code) -> bool {
-    match after_part(code, code.start) {
-        None => false,
-        Some(next) => loop_at(code, next).is_some(),
+/// Whether code is one item, or one and then a loop round one, as `[a-z]`, `[a-z]+` and `#.*` are: it is read where it may stand. A test
+/// of the place alone may hold before any byte.
+pub(crate) fn is_item_or_run(code: &Code) -> bool {
+    let Some(next) = after_part(code, code.start) else {
+        return false;
+    };
+    if next == MATCH {
+        return code.prefilter.starts.is_some();
     }
+    loop_at(code, next).is_some()
 }
 
 /// The place past the items that stand one after another from the first of these places on. Each ends at the last of them or before. Two

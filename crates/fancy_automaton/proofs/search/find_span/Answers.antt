@@ -1,4 +1,4 @@
-use Rattle.std.proofs.Common.{◌≡◌, ◌+◌, ◌∙◌, [], ℕ, None, Option, Some, ap, arith, option_map, refl, subst, sym, true}
+use Rattle.std.proofs.Common.{◌≡◌, ◌+◌, ◌∙◌, [], ℕ, None, Option, Some, ap, arith, option_map, refl, sym, true}
 use Rattle.std.specs.Prelude.{is_some}
 use Rattle.fancy_states.specs.Search.{ends_in}
 use Rattle.fancy_states.specs.Trail.{match_from}
@@ -6,16 +6,14 @@ use Rattle.fancy_code.specs.CodeLength.{code_len}
 use Rattle.fancy_states.proofs.CellLemmas.{row_ways, row_within}
 use Rattle.fancy_automaton.proofs.GoingLemmas.{going_end, going_first, going_idle, going_over}
 use Rattle.fancy_states.proofs.CountLemmas.{counts_from}
-use Rattle.fancy_automaton.specs.Sole.{Reaches}
 use Rattle.fancy_automaton.proofs.search.find_span.Goals as goal
-use Rattle.fancy_automaton.proofs.search.find_span.Goals.{then-not-is_wide_at, else-not-is_wide_at, then-is_wide_at+then-not-is_over, else-is_wide_at}
 
 match_found : (start : ℕ) (end : Option ℕ) → is_some end ≡ true → is_some (match_from start end) ≡ true
 match_found start None some = some
 match_found start (Some end) some = refl
 
-pub new-to-requires : goal.new-to-requires
-new-to-requires c =
+pub new-from-requires : goal.new-from-requires
+new-from-requires c =
     let a = c.args.attempt.now in
     let place = c.next_start-place.ensures in
     record {
@@ -28,74 +26,13 @@ new-to-requires c =
     }
 
 pub is_over-requires : goal.is_over-requires
-is_over-requires c =
-    let a = c.args.attempt.now in
-    let cells = c.origin.new.cells in
-    let p = c.new-to.result.stand.place in
-    let one : Reaches a cells p c.if-not-is_wide_at.to = elim c.if-not-is_wide_at.branch [
-      | then-not-is_wide_at w ↦ subst (Reaches a cells p) (sym w.to-is) w.follow-to.ensures.reaches
-      | else-not-is_wide_at w ↦ subst (Reaches a cells p) (sym w.to-is) (record { sole = c.new-to.ensures.sole; forth = omega arith })
-    ] in
-    row_within cells.rows.lists.items c.if-not-is_wide_at.to.stand.next one.sole.0 one.sole.1.waits
-
-pub follow_any-to-requires : goal.follow_any-to-requires
-follow_any-to-requires c =
-    let a = c.args.attempt.now in
-    let cells = c.origin.new.cells in
-    let p = c.new-to.result.stand.place in
-    let one : Reaches a cells p c.if-not-is_wide_at.to = elim c.if-not-is_wide_at.branch [
-      | then-not-is_wide_at w ↦ subst (Reaches a cells p) (sym w.to-is) w.follow-to.ensures.reaches
-      | else-not-is_wide_at w ↦ subst (Reaches a cells p) (sym w.to-is) (record { sole = c.new-to.ensures.sole; forth = omega arith })
-    ] in
-    record { sole = one.sole }
-
-pub is_over-requires-2 : goal.is_over-requires-2
-is_over-requires-2 c =
-    let a = c.args.attempt.now in
-    let cells = c.origin.new.cells in
-    let p = c.new-to.result.stand.place in
-    let one : Reaches a cells p c.if-not-is_wide_at.to = elim c.if-not-is_wide_at.branch [
-      | then-not-is_wide_at w ↦ subst (Reaches a cells p) (sym w.to-is) w.follow-to.ensures.reaches
-      | else-not-is_wide_at w ↦ subst (Reaches a cells p) (sym w.to-is) (record { sole = c.new-to.ensures.sole; forth = omega arith })
-    ] in
-    let two : Reaches a cells p c.if-is_wide_at.to = elim c.if-is_wide_at.branch [
-      | then-is_wide_at+then-not-is_over w ↦ subst (Reaches a cells p) (sym w.to-is)
-          (record { sole = w.follow_any-to.ensures.reaches.sole; forth = omega (arith, one.forth, w.follow_any-to.ensures.reaches.forth) })
-      | else-is_wide_at w ↦ subst (Reaches a cells p) (sym w.to-is) one
-    ] in
-    row_within cells.rows.lists.items c.if-is_wide_at.to.stand.next two.sole.0 two.sole.1.waits
+is_over-requires c = row_within c.origin.new.cells.rows.lists.items c.walk-to.result.stand.next _ c.walk-to.ensures.reaches.sole.1.waits
 
 pub told_end-requires-clause-sole : goal.told_end-requires-clause-sole
-told_end-requires-clause-sole c =
-    let a = c.args.attempt.now in
-    let cells = c.origin.new.cells in
-    let p = c.new-to.result.stand.place in
-    let one : Reaches a cells p c.if-not-is_wide_at.to = elim c.if-not-is_wide_at.branch [
-      | then-not-is_wide_at w ↦ subst (Reaches a cells p) (sym w.to-is) w.follow-to.ensures.reaches
-      | else-not-is_wide_at w ↦ subst (Reaches a cells p) (sym w.to-is) (record { sole = c.new-to.ensures.sole; forth = omega arith })
-    ] in
-    let two : Reaches a cells p c.if-is_wide_at.to = elim c.if-is_wide_at.branch [
-      | then-is_wide_at+then-not-is_over w ↦ subst (Reaches a cells p) (sym w.to-is)
-          (record { sole = w.follow_any-to.ensures.reaches.sole; forth = omega (arith, one.forth, w.follow_any-to.ensures.reaches.forth) })
-      | else-is_wide_at w ↦ subst (Reaches a cells p) (sym w.to-is) one
-    ] in
-    two.sole
+told_end-requires-clause-sole c = c.walk-to.ensures.reaches.sole
 
 pub trace-requires : goal.trace-requires
-trace-requires c =
-    let a = c.args.attempt.now in
-    let cells = c.origin.new.cells in
-    let p = c.new-to.result.stand.place in
-    let one : Reaches a cells p c.if-not-is_wide_at.to = elim c.if-not-is_wide_at.branch [
-      | then-not-is_wide_at w ↦ subst (Reaches a cells p) (sym w.to-is) w.follow-to.ensures.reaches
-      | else-not-is_wide_at w ↦ subst (Reaches a cells p) (sym w.to-is) (record { sole = c.new-to.ensures.sole; forth = omega arith })
-    ] in
-    let two : Reaches a cells p c.if-is_wide_at.to = elim c.if-is_wide_at.branch [
-      | then-is_wide_at+then-not-is_over w ↦ subst (Reaches a cells p) (sym w.to-is)
-          (record { sole = w.follow_any-to.ensures.reaches.sole; forth = omega (arith, one.forth, w.follow_any-to.ensures.reaches.forth) })
-      | else-is_wide_at w ↦ subst (Reaches a cells p) (sym w.to-is) one
-    ] in
-    record { sole = two.sole }
+trace-requires c = record { sole = c.walk-to.ensures.reaches.sole }
 
 pub returns-then-place-attempt-clause-answer : goal.returns-then-place-attempt-clause-answer
 returns-then-place-attempt-clause-answer c deep begun =
@@ -114,21 +51,12 @@ pub returns-then-is_over-clause-answer : goal.returns-then-is_over-clause-answer
 returns-then-is_over-clause-answer c deep begun =
     let a = c.args.attempt.now in
     let cells = c.origin.new.cells in
-    let p = c.new-to.result.stand.place in
-    let one : Reaches a cells p c.if-not-is_wide_at.to = elim c.if-not-is_wide_at.branch [
-      | then-not-is_wide_at w ↦ subst (Reaches a cells p) (sym w.to-is) w.follow-to.ensures.reaches
-      | else-not-is_wide_at w ↦ subst (Reaches a cells p) (sym w.to-is) (record { sole = c.new-to.ensures.sole; forth = omega arith })
-    ] in
-    let two : Reaches a cells p c.if-is_wide_at.to = elim c.if-is_wide_at.branch [
-      | then-is_wide_at+then-not-is_over w ↦ subst (Reaches a cells p) (sym w.to-is)
-          (record { sole = w.follow_any-to.ensures.reaches.sole; forth = omega (arith, one.forth, w.follow_any-to.ensures.reaches.forth) })
-      | else-is_wide_at w ↦ subst (Reaches a cells p) (sym w.to-is) one
-    ] in
-    let to = c.if-is_wide_at.to in
+    let to = c.walk-to.result in
+    let sole = c.walk-to.ensures.reaches.sole in
     ap (option_map ends_in) c.span_from.ensures
-    ∙ going_over a two.sole.0 _ (match_from to.start to.end) to.stand.place to.stand.place deep
-    (sym (row_ways cells.rows.lists.items to.stand.next two.sole.0 two.sole.1.waits) ∙ c.is_over-2.ensures.over c.if-is_over.true)
-    (match_found to.start to.end (c.is_over-2.ensures.found c.if-is_over.true)) begun two.sole.1.going
+    ∙ going_over a sole.0 _ (match_from to.start to.end) to.stand.place to.stand.place deep
+    (sym (row_ways cells.rows.lists.items to.stand.next sole.0 sole.1.waits) ∙ c.is_over.ensures.over c.if-is_over.true)
+    (match_found to.start to.end (c.is_over.ensures.found c.if-is_over.true)) begun sole.1.going
 
 pub returns-then-is_over-clause-kept : goal.returns-then-is_over-clause-kept
 returns-then-is_over-clause-kept c = record {
@@ -139,36 +67,14 @@ returns-then-is_over-clause-kept c = record {
 pub returns-2-clause-counts : goal.returns-2-clause-counts
 returns-2-clause-counts c =
     let a = c.args.attempt.now in
-    let cells = c.origin.new.cells in
-    let p = c.new-to.result.stand.place in
-    let one : Reaches a cells p c.if-not-is_wide_at.to = elim c.if-not-is_wide_at.branch [
-      | then-not-is_wide_at w ↦ subst (Reaches a cells p) (sym w.to-is) w.follow-to.ensures.reaches
-      | else-not-is_wide_at w ↦ subst (Reaches a cells p) (sym w.to-is) (record { sole = c.new-to.ensures.sole; forth = omega arith })
-    ] in
-    let two : Reaches a cells p c.if-is_wide_at.to = elim c.if-is_wide_at.branch [
-      | then-is_wide_at+then-not-is_over w ↦ subst (Reaches a cells p) (sym w.to-is)
-          (record { sole = w.follow_any-to.ensures.reaches.sole; forth = omega (arith, one.forth, w.follow_any-to.ensures.reaches.forth) })
-      | else-is_wide_at w ↦ subst (Reaches a cells p) (sym w.to-is) one
-    ] in
-    counts_from (code_len a.code.now) a.base c.if-is_wide_at.to.stand.place (a.last + 1)
-    (omega (arith, c.next_start-place.ensures.forth, c.new-to.ensures.place, two.forth)) c.trace.ensures.counts
+    counts_from (code_len a.code.now) a.base c.walk-to.result.stand.place (a.last + 1)
+    (omega (arith, c.next_start-place.ensures.forth, c.new-from.ensures.place, c.walk-to.ensures.reaches.forth)) c.trace.ensures.counts
 
 pub returns-in_err-found-clause-counts : goal.returns-in_err-found-clause-counts
 returns-in_err-found-clause-counts c =
     let a = c.args.attempt.now in
-    let cells = c.origin.new.cells in
-    let p = c.new-to.result.stand.place in
-    let one : Reaches a cells p c.if-not-is_wide_at.to = elim c.if-not-is_wide_at.branch [
-      | then-not-is_wide_at w ↦ subst (Reaches a cells p) (sym w.to-is) w.follow-to.ensures.reaches
-      | else-not-is_wide_at w ↦ subst (Reaches a cells p) (sym w.to-is) (record { sole = c.new-to.ensures.sole; forth = omega arith })
-    ] in
-    let two : Reaches a cells p c.if-is_wide_at.to = elim c.if-is_wide_at.branch [
-      | then-is_wide_at+then-not-is_over w ↦ subst (Reaches a cells p) (sym w.to-is)
-          (record { sole = w.follow_any-to.ensures.reaches.sole; forth = omega (arith, one.forth, w.follow_any-to.ensures.reaches.forth) })
-      | else-is_wide_at w ↦ subst (Reaches a cells p) (sym w.to-is) one
-    ] in
-    counts_from (code_len a.code.now) a.base c.if-is_wide_at.to.stand.place (a.last + 1)
-    (omega (arith, c.next_start-place.ensures.forth, c.new-to.ensures.place, two.forth)) c.trace.ensures.counts
+    counts_from (code_len a.code.now) a.base c.walk-to.result.stand.place (a.last + 1)
+    (omega (arith, c.next_start-place.ensures.forth, c.new-from.ensures.place, c.walk-to.ensures.reaches.forth)) c.trace.ensures.counts
 
 pub returns-clause-idle : goal.returns-clause-idle
 returns-clause-idle c none = absurd (c.next_start-place.ensures.some (omega (arith, c.if-place-attempt.false)) none)

@@ -29,6 +29,7 @@ returns-in-Ok-clause-begun c =
           ∙ without_filters c.args.self.now c.args.haystack.now c.args.request on c.requires.easy (λ (q : Query). answer_past q c.in-Ok.searched.reached ≡ search q) (known _ _ c.args.self.now.compiled
           (λ compiled. past_answered _ _ c.in-Ok.searched (rw (c.args.self.now.meant, c.for_search.ensures) at (c.in-Ok.ensures.answer _ on compiled.coded)) none));
       ends = refl;
+      free = refl;
       paid = subst (λ (s : ℕ). steps_of c.search.new.work + length * (c.args.request.range_end + 1 - s) ≤ steps_of c.args.work.now + length * (c.args.request.range_end + 1 - effective_start c.args.request)) (sym begins)
           (paid_before length (effective_start c.args.request) c.in-Ok.searched.reached (c.args.request.range_end + 1) (steps_of c.args.work.now) (steps_of c.search.new.work) from (omega (arith, to)) left.paid);
       units = c.search.ensures.heeds.units;

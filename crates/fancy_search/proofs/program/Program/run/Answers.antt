@@ -21,7 +21,7 @@ returns-in-Ok-clause-counts c =
     record {
       steps = c.search.ensures.steps;
       returns = c.search.ensures.returns;
-      paired = omega (arith, c.search.ensures.paired, c.search.ensures.steps, c.search.ensures.returns, c.requires.room.2);
+      paired = omega (arith, c.search.ensures.paired, c.search.ensures.steps, c.search.ensures.returns, c.requires.paired);
       within = heeds.within;
       limited = λ e. cc;
     }
@@ -37,7 +37,7 @@ returns-in-Err-clause-counts c =
     record {
       steps = c.search.ensures.steps;
       returns = c.search.ensures.returns;
-      paired = omega (arith, c.search.ensures.paired, c.search.ensures.steps, c.search.ensures.returns, c.requires.room.2);
+      paired = omega (arith, c.search.ensures.paired, c.search.ensures.steps, c.search.ensures.returns, c.requires.paired);
       within = heeds.within;
       limited = λ e. limited (ap Err (out_of_steps c.in-Err.refusal (rw c.error_of.ensures at e)));
     }

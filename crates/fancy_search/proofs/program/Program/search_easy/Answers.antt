@@ -13,7 +13,7 @@ use Rattle.fancy_search.specs.SearchCounts.{RefusesEasy}
 use Rattle.fancy_search.proofs.ResultLemmas.{if_any, if_ok, if_err}
 use Rattle.fancy_search.proofs.StraightLemmas.{counts_kept}
 use Rattle.fancy_search.proofs.program.Program.search_easy.Goals as goal
-use Rattle.fancy_search.proofs.program.Program.search_easy.Goals.{else-is_steps-via-else-is_steps, else-is_steps-via-then-is_steps+in-None-1}
+use Rattle.fancy_search.proofs.program.Program.search_easy.Goals.{else-is_steps-via-else-is_steps, else-is_steps-via-then-is_steps+else-not-is_led, else-is_steps-via-then-is_steps+then-not-is_led+in-None-1}
 
 pub run-requires-clause-kept : goal.run-requires-clause-kept
 run-requires-clause-kept c = if_some_at _ (table_kept c.args.kept.now) (λ k. KeepsTable c.args.self.now c.args.asked.now.haystack.now c.args.asked.now.request.now k (effective_start c.args.asked.now.request.now) c.args.cache.now.runner) c.table-table.ensures c.requires.kept.0
@@ -38,10 +38,11 @@ pub returns-then-allows_all_steps-2-clause-served : goal.returns-then-allows_all
 returns-then-allows_all_steps-2-clause-served c =
     let same = elim c.else-is_steps.branch as (λ _. c.else-is_steps.cache.machine ≡ c.args.cache.now.machine) [
       | else-is_steps-via-else-is_steps w ↦ ap (λ (k : Cache). k.machine) w.cache-is
-      | else-is_steps-via-then-is_steps+in-None-1 w ↦ ap (λ (k : Cache). k.machine) w.cache-is
+      | else-is_steps-via-then-is_steps+else-not-is_led w ↦ ap (λ (k : Cache). k.machine) w.cache-is
+      | else-is_steps-via-then-is_steps+then-not-is_led+in-None-1 w ↦ ap (λ (k : Cache). k.machine) w.cache-is
     ] in record {
       answer = if_ok _ _ (λ m is. is c.args.asked.now.continues) c.search_followed-found.result c.search_followed-found.ensures.answer;
-      held = λ asked. c.search_followed-found.ensures.held (c.if-is_followed.ensures.told refl asked);
+      held = c.search_followed-found.ensures.held;
       counts = c.search_followed-found.ensures.counts;
       idle = c.search_followed-found.ensures.idle c.args.asked.now.continues;
       refused = if_err _ (RefusesEasy c.args.self.now) (λ e memory. rw memory tt) c.search_followed-found.result c.search_followed-found.ensures.refused;
@@ -51,7 +52,7 @@ returns-then-allows_all_steps-2-clause-served c =
 pub returns-then-allows_all_steps-clause-served : goal.returns-then-allows_all_steps-clause-served
 returns-then-allows_all_steps-clause-served c = record {
   answer = if_ok _ _ (λ m is. c.without_groups-cache.ensures.answer m _ _ _ (is c.args.asked.now.continues)) c.follow.result c.follow.ensures.answer;
-  held = λ asked. if_any _ (λ _. c.without_groups-cache.ensures.held (c.if-is_followed.ensures.told refl asked)) c.follow.result;
+  held = λ asked. if_any _ (λ _. c.without_groups-cache.ensures.held (c.is_led.ensures c.if-not-is_led.true asked)) c.follow.result;
   counts = c.follow.ensures.counts;
   idle = c.follow.ensures.idle c.args.asked.now.continues;
   refused = if_err _ (RefusesEasy c.args.self.now) (λ e memory. rw memory tt) c.follow.result c.follow.ensures.refused;

@@ -2,25 +2,25 @@
 
 ghost use Rattle.std.specs.Prelude.{◌≤◌, length};
 
-use crate::one_item::reads_one;
-use crate::straight::is_run;
 use fancy_code::code::{Code, Instr};
+use fancy_code::found::Found;
+use fancy_input::input::Request;
 use fancy_prefilter::branches::WIDE;
 use fancy_prefilter::candidates::next_opening;
-use fancy_prefilter::prefilter::Prefilter;
+use fancy_prefilter::prefilter::{Anchor, Prefilter};
 use fancy_tree::char_set::CharSet;
 
 /// The automaton's first steps take about as long as so many of the runner for each instruction of the code.
-pub(crate) const WORTH: usize = 32;
+pub const WORTH: usize = 32;
 
 /// They take about as long as so many of the runner at least.
-pub(crate) const LEAST_WORTH: usize = 512;
+pub const LEAST_WORTH: usize = 512;
 
 /// They take about as long as so many of the runner at most: of long code few instructions are met.
-pub(crate) const MOST_WORTH: usize = 2048;
+pub const MOST_WORTH: usize = 2048;
 
 /// A search of a list by the runner takes about as long as so many more of its steps.
-pub(crate) const SEARCH: usize = 8;
+pub const SEARCH: usize = 8;
 
 /// A search that takes fewer steps at most is served by the runner alone.
 const LEAST_STEPS: usize = 500;
@@ -29,7 +29,7 @@ const LEAST_STEPS: usize = 500;
 const LEAST_STEPS_SCANNED: usize = 2000;
 
 /// The runner does not begin where its table would have more bits: it asks for all of them at once, one MiB here.
-pub(crate) const TABLE: usize = 8_388_608;
+pub const TABLE: usize = 8_388_608;
 
 /// A set with that many ASCII characters is wide, as `[a-z]` is.
 const WIDE_SET: usize = 26;
@@ -104,17 +104,11 @@ fn is_told_little(prefilter: &Prefilter) -> bool {
     !prefilter.scans_for_opening() && starts_differ
 }
 
-/// Whether the code reads one item, and then matches. A test of the place alone may hold before any byte.
-fn is_item(code: &Code) -> bool {
-    code.prefilter.starts.is_some() && reads_one(code, code.start)
-}
-
 /// From how many steps on that a search may take it is worth the automaton's: where the runner would make many attempts, or long ones.
-/// `None` where none is. Where a table tells words apart, the runner tries those alone that may match, which takes less. One item, or a
-/// run of one, is read where it may stand.
-pub(crate) fn least_steps(code: &Code) -> Option<usize> {
+/// `None` where none is. Where a table tells words apart, the runner tries those alone that may match, which takes less.
+pub fn least_steps(code: &Code) -> Option<usize> {
     let prefilter = &code.prefilter;
-    if tells_words(prefilter) || is_item(code) || is_run(code) {
+    if tells_words(prefilter) {
         return None;
     }
     if is_told_little(prefilter) {
@@ -126,13 +120,54 @@ pub(crate) fn least_steps(code: &Code) -> Option<usize> {
     None
 }
 
+/// So many steps of the runner for each byte take about as long as those of the automaton that it remembers.
+const STEPS_A_BYTE: usize = 2;
+
+/// Searches by the runner that take more steps together tell whether the automaton may save some.
+pub const MOST_TRIED: usize = 8192;
+
+/// Whether it may pay that the automaton tells the runner where to begin: a scan tells little of where matches begin, and they begin not
+/// only where a text or a line does.
+pub fn may_lead(prefilter: &Prefilter) -> bool {
+    match prefilter.anchor {
+        Anchor::AtStart | Anchor::AtLines(_) => false,
+        Anchor::Anywhere | Anchor::AtWords(_) => is_told_little(prefilter),
+    }
+}
+
+/// How many of the steps that the runner took for a search the automaton may have saved that tells the runner where to begin: none where
+/// the first place that a scan finds has the match, and else those beyond what the automaton takes itself.
+pub fn saved_steps(
+    prefilter: &Prefilter,
+    haystack: &[u8],
+    request: Request,
+    found: Option<Found>,
+    taken: usize,
+) -> usize
+    requires inside { request.range_end ≤ length haystack.now }
+{
+    let (first, end) = (request.effective_start(), request.range_end);
+    let place = match found {
+        Some(found) => found.position.min(end),
+        None => end,
+    };
+    if place <= first {
+        return 0;
+    }
+    let mut region = None;
+    if next_opening(prefilter, haystack, end, first, place, &mut region) >= place {
+        return 0;
+    }
+    taken.saturating_sub((place - first).saturating_mul(STEPS_A_BYTE))
+}
+
 /// So many bytes are looked at for the first required text.
 const AHEAD: usize = 4096;
 
 /// Whether the runner leaps: from `first` up to `end`, byte offsets, it looks at fewer bytes than it passes over, as far as the first text
 /// tells that each match must have. Where no opening is scanned for, the automaton goes on by first bytes alone.
 #[inline(never)]
-pub(crate) fn leaps(prefilter: &Prefilter, haystack: &[u8], first: usize, end: usize) -> bool
+pub fn leaps(prefilter: &Prefilter, haystack: &[u8], first: usize, end: usize) -> bool
     requires inside { end ≤ length haystack.now }
 {
     if prefilter.region.is_none() || end < first {

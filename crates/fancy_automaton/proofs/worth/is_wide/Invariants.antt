@@ -1,5 +1,5 @@
 use Rattle.std.proofs.Common.{◌≤◌}
-use Rattle.fancy_search.proofs.following.is_wide.Given as goal
+use Rattle.fancy_automaton.proofs.worth.is_wide.Given as goal
 
 abbrev pub invariant-loop-character : goal.invariant-loop-character
 invariant-loop-character l = l.members ≤ l.character
