@@ -1,6 +1,8 @@
 -- A search that goes on: from a later position on it answers as the whole one, where nothing was found before.
 use Rattle.std.proofs.Common.{◌≡◌, ◌+◌, ◌-◌, ◌*◌, ◌≤◌, ◌<◌, ◌∙◌, ℕ, zero, suc, Bool, true, false, List, Option, Some, None, IfNone, length, refl, sym, subst, ap, ap₂, arith, true≢false}
-use Rattle.std.specs.Prelude.{is_some, min, option_map}
+use Rattle.std.specs.Prelude.{is_some, nat_lt, not, option_map, slice_index, ◌&&◌, ◌||◌}
+use Rattle.std.proofs.lemmas.Bool.Decides.{nat_tests}
+use Rattle.fancy_bytes.specs.Firsts.{first_bytes, has_start_bytes}
 use Rattle.std.specs.Option.{option_or}
 use Rattle.fancy_input.specs.Requests.{effective_start, positions}
 use Rattle.fancy_input.specs.declared.input.Request.{Request}
@@ -109,12 +111,11 @@ pub work_for_fewer : (limit : Option ℕ) (more fewer : ℕ) (w : Work) → fewe
 work_for_fewer None more fewer w le for = tt
 work_for_fewer (Some most) more fewer w le for = omega (arith, le, for)
 
--- the steps up to a place, and as many as are left after it, are no more than all
-pub left_after : (n first end range_end cut before after taken : ℕ) → first ≤ end → cut ≡ min end range_end → after ≤ before + n * (cut + 1 - first) → taken ≤ n * (range_end - end)
-    → taken + after ≤ before + n * (range_end + 1 - first)
-left_after n first end range_end cut before after taken le is one two =
-    let whole : range_end + 1 - first ≡ (range_end - end) + (cut + 1 - first) = omega (arith, le, is) in
-    omega (arith, one, two, ap (λ (k : ℕ). n * k) whole)
+-- the steps at fewer places than are paid for are paid
+pub part_paid : (n part left whole taken before after : ℕ) → part ≤ left → after ≤ before + n * part → taken + n * left ≤ n * whole → taken + after ≤ before + n * whole
+part_paid n part left whole taken before after le one two =
+    let all : left ≡ part + (left - part) = omega (arith, le) in
+    omega (arith, one, two, ap (λ (k : ℕ). n * k) all)
 
 -- what is asked from a place on, where no match begins before it
 module _ (r : Program) (haystack : List ℕ) (request : Request) (place : ℕ) (from : effective_start request ≤ place) where
@@ -133,3 +134,17 @@ module _ (r : Program) (haystack : List ℕ) (request : Request) (place : ℕ) (
 -- past the last place nothing is found
 pub rest_none : (q : Query) (place : ℕ) → q.request.range_end < place → IsAnsweredFrom q place → search q ≡ None
 rest_none q place past is = sym is ∙ search_over q (q.request.range_end + 1 - place) place (omega (arith, past))
+
+fewer_tried : (seeks starts near far begins : Bool) → (near ≡ true → far ≡ true) → (not seeks || (not starts || (far && begins))) ≡ false → (not seeks || (not starts || (near && begins))) ≡ false
+fewer_tried false starts near far begins wider none = none
+fewer_tried true false near far begins wider none = none
+fewer_tried true true false far begins wider none = refl
+fewer_tried true true true far begins wider none = ap (λ (b : Bool). b && begins) (sym (wider refl)) ∙ none
+
+-- where no position is tried, none is of what is asked up to an earlier end
+pub part_untried : (r : Program) (haystack : List ℕ) (request : Request) (cut : ℕ) (seek on : Bool) → cut ≤ request.range_end
+    → NoneTried seek (asked_of r haystack request on) → NoneTried seek (asked_of r haystack (record request { range_end = cut }) on)
+part_untried r haystack request cut seek on within none p low high =
+    let q = asked_of r haystack request on in
+    fewer_tried seek (has_start_bytes q.sought.pattern) (nat_lt p cut) (nat_lt p request.range_end) (first_bytes q.sought.meaning q.sought.pattern (slice_index haystack p))
+    (λ lt. grind (arith, nat_tests)) (none p low (omega (arith, high, within)))

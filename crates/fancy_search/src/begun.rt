@@ -41,8 +41,8 @@ impl Led {
 pub(crate) struct Attempts {
     /// Where they began.
     pub(crate) from: Candidate,
-    /// The match.
-    pub(crate) found: Found,
+    /// The match, if one was found.
+    pub(crate) found: Option<Found>,
     /// How many steps they took.
     pub(crate) steps: usize,
 }

@@ -74,6 +74,9 @@ use fancy_tree::name::Names;
 use fancy_tree::tree::{Meaning, Tree};
 use std::alloc::{AllocError, Global};
 
+/// Steps are computed for so many bytes at most after a search.
+const MOST_LEARNT: usize = 4096;
+
 /// A haystack of fewer bytes is short.
 const SHORT_HAYSTACK: usize = 256;
 
@@ -180,6 +183,21 @@ fn anchored_at(request: Request, position: usize) -> Request
         start: position,
         anchored: true,
         ..request
+    }
+}
+
+/// For how many places steps may be computed still, after so many steps of a search that may take as many as the code is long for each of
+/// these places.
+fn places_left(code_len: usize, places: usize, taken: usize) -> usize
+    ensures { 0 < result → taken + code_len * result ≤ code_len * places }
+{
+    let most = code_len.saturating_mul(places);
+    if taken > most {
+        return 0;
+    }
+    match (most - taken).checked_div(code_len) {
+        None => 0,
+        Some(left) => left,
     }
 }
 
@@ -733,23 +751,18 @@ impl Program {
         };
         let before = work.steps();
         let mut table = None;
-        let Some(found) = self.run(haystack, &rest, &mut table, cache, work)? else {
-            return Ok(Led::nothing());
-        };
+        let found = self.run(haystack, &rest, &mut table, cache, work)?;
         let attempts = Attempts {
             from,
             found,
             steps: work.steps() - before,
         };
         let kept = self.learn(haystack, request, attempts, steps, work)?;
-        Ok(Led {
-            found: Some(found),
-            kept,
-        })
+        Ok(Led { found, kept })
     }
 
-    /// What is kept after a match was found from where the steps told. Where they did not tell where it begins, those up to its end are
-    /// computed for later searches, if that takes no more steps than are left of what a search may take.
+    /// What is kept after the runner searched from where the steps told. Where they did not tell where the match begins, or that there is
+    /// none, those from the first place on are computed for later searches, as far as the search may take so many more steps.
     fn learn(
         &self,
         haystack: &[u8],
@@ -759,13 +772,14 @@ impl Program {
         work: &mut Work,
     ) -> Result<Kept>
         requires followable { IsFollowable self.now haystack.now request }
-        requires ordered { effective_start request ≤ attempts.found.end }
         requires kept { AreStepsOf self.now.code steps.old }
         ensures kept { AreStepsOf self.now.code steps.new }
         ensures left { IfOk result (λ k. keeps_no_table k ≡ true) }
         ensures steps { steps_of work.old ≤ steps_of work.new }
         ensures bounded { (steps_of work.new ≡ steps_of work.old) ⊎ (attempts.steps + steps_of work.new
             ≤ steps_of work.old + step_bound self.now request) }
+        ensures idle { (on : Bool) → NoneTried (program_options self.now).seek
+            (asked_of self.now haystack.now request on) → steps_of work.new ≡ steps_of work.old }
         ensures returns { returns_of work.new ≡ returns_of work.old }
         ensures units { units_of work.new ≡ units_of work.old }
         ensures refused { IfErr result (λ e. e ≡ Error.Memory) }
@@ -775,16 +789,22 @@ impl Program {
             found,
             steps: taken,
         } = attempts;
-        if found.position == from.told {
-            let twice = found.end.saturating_sub(from.told);
-            return Ok(steps.lead_on(found.end, from.passed, twice));
-        }
-        let places = request.range_end.saturating_sub(found.end);
-        if taken > self.code.len().saturating_mul(places) {
+        let end = match found {
+            Some(found) if found.position == from.told => {
+                let twice = found.end.saturating_sub(from.told);
+                return Ok(steps.lead_on(found.end, from.passed, twice));
+            }
+            Some(found) => found.end,
+            None => request.range_end,
+        };
+        let (first, last) = (request.effective_start(), request.range_end);
+        let places = (last + 1).saturating_sub(first);
+        let left = places_left(self.code.len(), places, taken).min(MOST_LEARNT);
+        if left == 0 {
             return Ok(Kept::Steps);
         }
         let part = Request {
-            range_end: found.end.min(request.range_end),
+            range_end: end.min(last).min(first.saturating_add(left - 1)),
             ..request
         };
         let options = self.options.for_search();
@@ -796,7 +816,7 @@ impl Program {
         if work.steps() > reached {
             return Ok(Kept::Steps);
         }
-        Ok(steps.lead_on(found.end, 0, taken))
+        Ok(steps.lead_on(end, 0, taken))
     }
 
     /// What the automaton serves as, which tells no group: none takes part where the code ends none, and else they are not asked.

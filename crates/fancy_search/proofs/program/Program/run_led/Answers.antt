@@ -2,7 +2,6 @@ use Rattle.std.proofs.Common.{◌≡◌, ◌+◌, ◌∙◌, Option, None, Some,
 use Rattle.std.proofs.lemmas.Result.{err_from_is_err_and}
 use Rattle.fancy_input.specs.Requests.{effective_start}
 use Rattle.fancy_automaton.specs.Decided.{IsAnsweredFrom}
-use Rattle.fancy_code.proofs.TriedLemmas.{none_found}
 use Rattle.fancy_code.specs.Queries.{answer_with}
 use Rattle.fancy_code.specs.declared.found.Found.{Found}
 use Rattle.fancy_meaning.specs.Search.{Query}
@@ -28,9 +27,6 @@ returns-then-from-request-clause-kept c = record { true_of = remembers c.find_ca
 pub returns-in_err-found-clause-kept : goal.returns-in_err-found-clause-kept
 returns-in_err-found-clause-kept c = record { true_of = remembers c.find_candidate.new.cells c.args.self.now.code c.find_candidate.ensures.all; within = c.find_candidate.ensures.kept }
 
-pub returns-in_default-2-clause-kept : goal.returns-in_default-2-clause-kept
-returns-in_default-2-clause-kept c = record { true_of = remembers c.find_candidate.new.cells c.args.self.now.code c.find_candidate.ensures.all; within = c.find_candidate.ensures.kept }
-
 pub learn-requires-clause-kept : goal.learn-requires-clause-kept
 learn-requires-clause-kept c = record { true_of = remembers c.find_candidate.new.cells c.args.self.now.code c.find_candidate.ensures.all; within = c.find_candidate.ensures.kept }
 
@@ -46,10 +42,6 @@ pub returns-in_err-found-clause-idle : goal.returns-in_err-found-clause-idle
 returns-in_err-found-clause-idle c on none =
     c.run.ensures.idle on (rest_untried c.args.self.now c.args.haystack.now c.args.request c.in-Ok.from.told c.in-Ok.ensures.forth (program_options c.args.self.now).seek on none)
 
-pub returns-in_default-2-clause-idle : goal.returns-in_default-2-clause-idle
-returns-in_default-2-clause-idle c on none =
-    c.run.ensures.idle on (rest_untried c.args.self.now c.args.haystack.now c.args.request c.in-Ok.from.told c.in-Ok.ensures.forth (program_options c.args.self.now).seek on none)
-
 pub returns-in_err-found-clause-refused : goal.returns-in_err-found-clause-refused
 returns-in_err-found-clause-refused c =
     let rest = record c.args.request { start = c.in-Ok.from.told } in
@@ -58,22 +50,10 @@ returns-in_err-found-clause-refused c =
     let q = err_from_is_err_and c.from_residual.result c.from_residual.ensures.1 in
     rw (q.1, q.2) (only_memory {A = Option Found} c.args.self.now _ c.in_err-found.ensures.refused (c.in_err-found.ensures.unlimited refl allowed))
 
-pub returns-in_default-2-clause-answer : goal.returns-in_default-2-clause-answer
-returns-in_default-2-clause-answer c on =
-    let told = c.in-Ok.from.told in
-    let answered = without_filters c.args.self.now c.args.haystack.now c.args.request on c.requires.followable.easy (λ (q : Query). IsAnsweredFrom q told)
-    (known _ _ c.args.self.now.compiled (λ compiled. rw (c.args.self.now.meant, c.for_search-options.ensures) at (c.in-Ok.ensures.answer _ on compiled.coded))) in
-    let same = rest_same c.args.self.now c.args.haystack.now c.args.request told c.in-Ok.ensures.forth on on c.requires.followable.easy c.requires.followable.inside c.requires.unanchored
-    (omega (arith, c.if-from-request.false)) answered in
-    ap (λ (led : Led). answer_with (groups_in c.run.new.cache) led.found) c.nothing-in_default-2.ensures
-    ∙ ap (answer_with (groups_in c.run.new.cache)) (sym c.in_default-2.is) ∙ c.in_ok-found.ensures.answer on ∙ same
-
 pub returns-in_err-kept-clause-idle : goal.returns-in_err-kept-clause-idle
 returns-in_err-kept-clause-idle c on none =
-    let rest = record c.args.request { start = c.in-Ok.from.told } in
-    let seek = (program_options c.args.self.now).seek in
-    let untried = rest_untried c.args.self.now c.args.haystack.now c.args.request c.in-Ok.from.told c.in-Ok.ensures.forth seek on none in
-    let never : Some _ ≡ None = ap (answer_with (groups_in c.run.new.cache)) (sym c.in-Some.is) ∙ c.in_ok-found.ensures.answer on ∙ none_found seek (asked_of c.args.self.now c.args.haystack.now rest on) untried in cc
+    c.learn.ensures.idle on none
+    ∙ c.run.ensures.idle on (rest_untried c.args.self.now c.args.haystack.now c.args.request c.in-Ok.from.told c.in-Ok.ensures.forth (program_options c.args.self.now).seek on none)
 
 pub returns-clause-answer : goal.returns-clause-answer
 returns-clause-answer c on =
@@ -82,11 +62,9 @@ returns-clause-answer c on =
     (known _ _ c.args.self.now.compiled (λ compiled. rw (c.args.self.now.meant, c.for_search-options.ensures) at (c.in-Ok.ensures.answer _ on compiled.coded))) in
     let same = rest_same c.args.self.now c.args.haystack.now c.args.request told c.in-Ok.ensures.forth on on c.requires.followable.easy c.requires.followable.inside c.requires.unanchored
     (omega (arith, c.if-from-request.false)) answered in
-    ap (answer_with (groups_in c.run.new.cache)) (sym c.in-Some.is) ∙ c.in_ok-found.ensures.answer on ∙ same
+    c.in_ok-found.ensures.answer on ∙ same
 
 pub returns-clause-idle : goal.returns-clause-idle
 returns-clause-idle c on none =
-    let rest = record c.args.request { start = c.in-Ok.from.told } in
-    let seek = (program_options c.args.self.now).seek in
-    let untried = rest_untried c.args.self.now c.args.haystack.now c.args.request c.in-Ok.from.told c.in-Ok.ensures.forth seek on none in
-    let never : Some _ ≡ None = ap (answer_with (groups_in c.run.new.cache)) (sym c.in-Some.is) ∙ c.in_ok-found.ensures.answer on ∙ none_found seek (asked_of c.args.self.now c.args.haystack.now rest on) untried in cc
+    c.learn.ensures.idle on none
+    ∙ c.run.ensures.idle on (rest_untried c.args.self.now c.args.haystack.now c.args.request c.in-Ok.from.told c.in-Ok.ensures.forth (program_options c.args.self.now).seek on none)

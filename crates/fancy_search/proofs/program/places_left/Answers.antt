@@ -1,0 +1,1 @@
+use Rattle.fancy_search.proofs.program.places_left.Goals as goal
