@@ -1,5 +1,6 @@
 -- What stands for a text on its way to having its matches replaced.
-use Rattle.std.specs.Prelude.{◌≡◌, ◌++◌, ◌∷◌, None, true, false, List, ℕ, length, slice_range, string_bytes}
+use Rattle.std.specs.Borrow.{Bor}
+use Rattle.std.specs.Prelude.{◌≡◌, ◌++◌, ◌∷◌, None, true, false, List, Option, ℕ, length, slice_range, string_bytes}
 use Rattle.fancy_tree.specs.declared.error.Error.{Error}
 use Rattle.fancy_core.specs.declared.regex.Regex.{Regex}
 use Rattle.fancy_core.specs.declared.rewriting.Rewriting.{Rewriting}
@@ -11,7 +12,7 @@ use Rattle.fancy_search.specs.FoundItems.{item_in}
 use Rattle.fancy_core.specs.ItemLimits.{up_to, is_reached}
 use Rattle.fancy_search.specs.MatchList.{MatchItem}
 use Rattle.fancy_core.specs.Replacing.{seen_of, IsRefusedFrom}
-use Rattle.fancy_search.specs.Searchers.{left_of, standing_of}
+use Rattle.fancy_search.specs.Searchers.{item_next, left_of, standing_of}
 
 abbrev pub rewriting_regex : Rewriting → Regex
 rewriting_regex w = w.regex.now
@@ -39,9 +40,17 @@ all_written w = written_to (length (rewriting_text w)) w
 abbrev pub WritesTo : ℕ → Rewriting → Rewriting → Type 0
 WritesTo end s t = string_bytes t.out ≡ written_to end s
 
--- this is the first of the matches that are to be replaced, and the others are left
+-- the match that is found next
+abbrev pub next_of : Rewriting → Option MatchItem
+next_of w = item_next (λ _. true) (λ (h : Bor (List ℕ)). h.now) (program_in w.regex.now) w.searcher
+
+-- this is the first of the matches that are to be replaced, and the others are left; where groups are not asked, with those that it has
 abbrev pub TakesFirst : Rewriting → FoundItem → Rewriting → Type 0
-TakesFirst s i t = todo_of s ≡ item_in t.cache None i ∷ todo_of t
+TakesFirst s i t = todo_of s ≡ item_in t.cache (next_of s) i ∷ todo_of t
+
+-- the search left the groups of this match
+abbrev pub HoldsFirst : Rewriting → FoundItem → Rewriting → Type 0
+HoldsFirst s i t = item_in t.cache (next_of s) i ≡ item_in t.cache None i
 
 -- the search for the next match may be refused by this error; once the limit is reached there is no such search
 abbrev pub RefusesSearch : Rewriting → Error → Type 0
@@ -62,3 +71,4 @@ pub record Stays (s t : Rewriting) : Type 0 where
   pub left : t.left ≡ s.left
   pub last : t.last ≡ s.last
   pub found : t.found ≡ s.found
+  pub asks : t.searcher.groups ≡ s.searcher.groups

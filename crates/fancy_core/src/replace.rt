@@ -167,7 +167,7 @@ impl Regex {
         ensures allowed { IfOk result (λ _. AllowsReplacing self.now text.now limit) }
         ensures refused { IfErr result (λ e. IsRefusedAfterSome self.now text.now limit e) }
     {
-        let mut rewriting = Rewriting::new(self, text, limit);
+        let mut rewriting = Rewriting::new(self, text, limit, false);
         'matches: while let Some(_) = rewriting.next_match()? {
             rewriting.push(fixed)?;
         }
@@ -192,7 +192,7 @@ impl Regex {
             replacer.old replacer.new result }
         ensures again { R.callable replacer.new }
     {
-        let mut rewriting = Rewriting::new(self, text, limit);
+        let mut rewriting = Rewriting::new(self, text, limit, true);
         'matches: while let Some(item) = rewriting.next_match()? {
             rewriting.push_answer(item, replacer)?;
         }

@@ -48,17 +48,17 @@ pub(crate) struct Rewriting<'r, 't> {
     ghost kept: { Keeps (λ (h : Bor (List ℕ)). h.now) regex.now.program searcher cache },
     ghost inside: { last ≤ length searcher.haystack.now },
     ghost cleanly: { IsTrue (is_boundary searcher.haystack.now last) },
-    ghost asks: { searcher.groups ≡ true },
     ghost before: { searcher.ended ≡ false → last ≤ searcher.request.start },
     ghost of_text: { searcher.request
         ≡ record (whole searcher.haystack.now) { start = searcher.request.start } },
 }
 
 impl<'r, 't> Rewriting<'r, 't> {
-    ghost use Rattle.fancy_core.specs.Rewriting.{rewriting_regex, rewriting_text, todo_of, seen_at, all_written, AllowsTodo, Stays, TakesFirst, WritesTo, RefusesSearch};
+    ghost use Rattle.fancy_core.specs.Rewriting.{rewriting_regex, rewriting_text, todo_of, seen_at, all_written, AllowsTodo, HoldsFirst, Stays, TakesFirst, WritesTo, RefusesSearch};
 
-    /// A text of which nothing is replaced yet, and so many matches are to be: all of them where `limit` is 0.
-    pub fn new(regex: &'r Regex, text: &'t str, limit: usize) -> Rewriting<'r, 't>
+    /// A text of which nothing is replaced yet, and so many matches are to be: all of them where `limit` is 0. `groups` says whether the
+    /// groups of each match are asked for.
+    pub fn new(regex: &'r Regex, text: &'t str, limit: usize, groups: bool) -> Rewriting<'r, 't>
         requires suits { Suits (options_in regex.now) true text.now }
         ensures regex { rewriting_regex result ≡ regex.now }
         ensures text { rewriting_text result ≡ text.now }
@@ -68,10 +68,11 @@ impl<'r, 't> Rewriting<'r, 't> {
         ensures out { string_bytes result.out ≡ [] }
         ensures last { result.last ≡ 0 }
         ensures found { result.found ≡ false }
+        ensures asks { result.searcher.groups ≡ groups }
     {
         Rewriting {
             regex,
-            searcher: Searcher::new(RegexInput::new(text), true),
+            searcher: Searcher::new(RegexInput::new(text), groups),
             cache: Cache::new(regex.allocator()),
             left: limit_of(limit),
             out: String::new(regex.allocator()),
@@ -84,6 +85,8 @@ impl<'r, 't> Rewriting<'r, 't> {
     pub fn next_match(&mut self) -> Result<Option<FoundItem>>
         ensures steps { IfOk result (λ o. MatchOption o (todo_of self.old ≡ []) (λ i.
             TakesFirst self.old i self.new)) }
+        ensures held { self.old.searcher.groups ≡ true
+            → IfOk result (λ o. IfSome o (λ i. HoldsFirst self.old i self.new)) }
         ensures allowed { IfOk result
             (λ o. MatchOption o (AllowsTodo self.old) (λ _. AllowsTodo self.new
             → AllowsTodo self.old)) }
@@ -99,6 +102,7 @@ impl<'r, 't> Rewriting<'r, 't> {
         ensures text { rewriting_text self.new ≡ rewriting_text self.old }
         ensures groups { IfOk result
             (λ o. IfSome o (λ i. HasGroups true (rewriting_text self.old) i.found self.new.cache)) }
+        ensures asks { self.new.searcher.groups ≡ self.old.searcher.groups }
         ensures idle { is_reached self.old.left ≡ true
             → (self.new.searcher ≡ self.old.searcher) × (self.new.cache ≡ self.old.cache) }
         ensures refused { IfErr result (λ e. (e ≡ Error.Memory) ⊎ RefusesSearch self.old e) }

@@ -6,7 +6,7 @@ use Rattle.fancy_search.specs.FoundItems.{item_in}
 use Rattle.fancy_search.specs.MatchList.{MatchItem, start_of}
 use Rattle.fancy_core.specs.ItemLimits.{is_reached}
 use Rattle.fancy_core.specs.Replacing.{IsRefusedFrom}
-use Rattle.fancy_core.specs.Rewriting.{rewriting_regex, rewriting_text, todo_of}
+use Rattle.fancy_core.specs.Rewriting.{next_of, rewriting_regex, rewriting_text, todo_of}
 use Rattle.fancy_search.proofs.ResultLemmas.{if_ok, if_err}
 use Rattle.fancy_core.proofs.ReplaceLemmas.{filling, Goes, goes_first, goes_on, goes_over, goes_last, goes_found, goes_stopped, fills_stopped, refused_same, one_done, none_is, borrowed_is, same_fills}
 use Rattle.fancy_core.proofs.AllowedLemmas.{of_answer}
@@ -32,18 +32,18 @@ matches-preserved c =
     let last = rw c.in-Some.is at c.in_ok-next_match.ensures.last in
     let found = rw c.in-Some.is at c.in_ok-next_match.ensures.found in
     let left = rw c.in-Some.is at c.in_ok-next_match.ensures.left in
-    let todo : todo_of before ≡ item_in match.cache None item ∷ todo_of after = steps ∙ ap (λ (z : List MatchItem). item_in match.cache None item ∷ z) (sym stays.todo) in
-    let part : string_bytes match.out ≡ string_bytes before.out ++ slice_range c.args.text.now before.last (start_of (item_in match.cache None item)) = written ∙ ap (λ (z : List ℕ). string_bytes before.out ++ slice_range z before.last item.found.start) c.matches.invariant.text in
-    let more : string_bytes after.out ≡ (string_bytes before.out ++ slice_range c.args.text.now before.last (start_of (item_in match.cache None item))) ++ c.args.fixed.now = c.in_ok-push.ensures.ok ∙ ap (λ (z : List ℕ). z ++ c.args.fixed.now) part in
+    let todo : todo_of before ≡ item_in match.cache (next_of before) item ∷ todo_of after = steps ∙ ap (λ (z : List MatchItem). item_in match.cache (next_of before) item ∷ z) (sym stays.todo) in
+    let part : string_bytes match.out ≡ string_bytes before.out ++ slice_range c.args.text.now before.last (start_of (item_in match.cache (next_of before) item)) = written ∙ ap (λ (z : List ℕ). string_bytes before.out ++ slice_range z before.last item.found.start) c.matches.invariant.text in
+    let more : string_bytes after.out ≡ (string_bytes before.out ++ slice_range c.args.text.now before.last (start_of (item_in match.cache (next_of before) item))) ++ c.args.fixed.now = c.in_ok-push.ensures.ok ∙ ap (λ (z : List ℕ). z ++ c.args.fixed.now) part in
     record {
       regex = stays.regex ∙ (c.in_ok-next_match.ensures.regex ∙ c.matches.invariant.regex);
       text = stays.text ∙ (c.in_ok-next_match.ensures.text ∙ c.matches.invariant.text);
       allowed = λ later. c.matches.invariant.allowed ((rw c.in-Some.is at c.in_ok-next_match.ensures.allowed) (stays.allowed later));
-      goes = goes_on (filling c.args.self.now c.args.text.now c.args.limit) _ _ _ _ _ _ _ _ _ _ _ (item_in match.cache None item) _ _ _ c.args.fixed.now todo refl (refl, refl) more (stays.last ∙ last) (stays.found ∙ found) (stays.left ∙ left) c.matches.invariant.goes;
+      goes = goes_on (filling c.args.self.now c.args.text.now c.args.limit) _ _ _ _ _ _ _ _ _ _ _ (item_in match.cache (next_of before) item) _ _ _ c.args.fixed.now todo refl (refl, refl) more (stays.last ∙ last) (stays.found ∙ found) (stays.left ∙ left) c.matches.invariant.goes;
     }
 
 pub matches-smaller : goal.matches-smaller
-matches-smaller c = one_done _ _ _ (rw c.in-Some.is at c.in_ok-next_match.ensures.steps ∙ ap (λ (z : List MatchItem). item_in c.next_match.new.self.cache None c.in-Some.field-0 ∷ z) (sym c.in_ok-push.ensures.stays.todo))
+matches-smaller c = one_done _ _ _ (rw c.in-Some.is at c.in_ok-next_match.ensures.steps ∙ ap (λ (z : List MatchItem). item_in c.next_match.new.self.cache (next_of c.matches.rewriting) c.in-Some.field-0 ∷ z) (sym c.in_ok-push.ensures.stays.todo))
 
 pub returns : goal.returns
 returns c =

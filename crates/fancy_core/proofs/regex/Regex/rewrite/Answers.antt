@@ -6,7 +6,7 @@ use Rattle.fancy_search.specs.FoundItems.{item_in}
 use Rattle.fancy_search.specs.MatchList.{MatchItem, start_of}
 use Rattle.fancy_core.specs.ItemLimits.{is_reached}
 use Rattle.fancy_core.specs.Replacing.{replacing, IsRefusedFrom, IsRefusedBetweenCalls, seen_of}
-use Rattle.fancy_core.specs.Rewriting.{rewriting_regex, rewriting_text, todo_of}
+use Rattle.fancy_core.specs.Rewriting.{next_of, rewriting_regex, rewriting_text, todo_of}
 use Rattle.fancy_search.proofs.ResultLemmas.{if_ok, if_err}
 use Rattle.fancy_core.proofs.ReplaceLemmas.{Goes, goes_first, goes_on, goes_over, goes_last, goes_found, goes_refused, goes_stopped, refused_same, or_both, one_done, none_is, borrowed_is, seen_same}
 use Rattle.fancy_core.proofs.regex.Regex.rewrite.Goals as goal
@@ -16,6 +16,7 @@ matches-init g c = record {
   callable = c.requires.callable;
   regex = c.new-rewriting.ensures.regex;
   text = c.new-rewriting.ensures.text;
+  asks = c.new-rewriting.ensures.asks;
   allowed = c.new-rewriting.ensures.allowed;
   goes = goes_first (replacing (λ _. None) g.R.Replacer.appends g.R.Replacer.refuses c.args.self.now c.args.text.now c.args.limit) _ _ _ _ _ _ c.new-rewriting.ensures.todo c.new-rewriting.ensures.out c.new-rewriting.ensures.last c.new-rewriting.ensures.found c.new-rewriting.ensures.left;
 }
@@ -28,7 +29,8 @@ matches-preserved g c =
     let after = c.push_answer.new.self in
     let stays = c.in_ok-push_answer.ensures.stays in
     let ok = c.in_ok-push_answer.ensures.ok in
-    let steps = rw c.in-Some.is at c.in_ok-item.ensures.steps in
+    let held = rw c.in-Some.is at (c.in_ok-item.ensures.held c.matches.invariant.asks) in
+    let steps = rw c.in-Some.is at c.in_ok-item.ensures.steps ∙ ap (λ (i : MatchItem). i ∷ todo_of match) held in
     let written = rw c.in-Some.is at c.in_ok-item.ensures.written in
     let last = rw c.in-Some.is at c.in_ok-item.ensures.last in
     let found = rw c.in-Some.is at c.in_ok-item.ensures.found in
@@ -42,12 +44,13 @@ matches-preserved g c =
       callable = c.in_ok-push_answer.ensures.again;
       regex = stays.regex ∙ regex;
       text = stays.text ∙ text;
+      asks = stays.asks ∙ c.in_ok-item.ensures.asks ∙ c.matches.invariant.asks;
       allowed = λ later. c.matches.invariant.allowed ((rw c.in-Some.is at c.in_ok-item.ensures.allowed) (stays.allowed later));
       goes = goes_on (replacing (λ _. None) g.R.Replacer.appends g.R.Replacer.refuses c.args.self.now c.args.text.now c.args.limit) _ _ _ _ _ _ _ _ _ _ _ (item_in match.cache None item) _ _ _ ok.0 todo (seen_same _ _ _ _ (item_in match.cache None item) regex text) ok.2 more (stays.last ∙ last) (stays.found ∙ found) (stays.left ∙ left) c.matches.invariant.goes;
     }
 
 pub matches-smaller : goal.matches-smaller
-matches-smaller g c = one_done _ _ _ (rw c.in-Some.is at c.in_ok-item.ensures.steps ∙ ap (λ (z : List MatchItem). item_in c.next_match.new.self.cache None c.in-Some.item ∷ z) (sym c.in_ok-push_answer.ensures.stays.todo))
+matches-smaller g c = one_done _ _ _ (rw c.in-Some.is at c.in_ok-item.ensures.steps ∙ ap (λ (z : List MatchItem). item_in c.next_match.new.self.cache (next_of c.matches.rewriting) c.in-Some.item ∷ z) (sym c.in_ok-push_answer.ensures.stays.todo))
 
 pub returns : goal.returns
 returns g c =
@@ -83,5 +86,5 @@ returns-in_err-push_answer-clause-refused g c =
     let last = c.push_answer.new.replacer in
     rw q.1 (or_both ((q.0 ≡ Memory) × (last ≡ c.matches.replacer)) _ _ _
     (λ w. subst (λ (z : _). IsRefusedBetweenCalls k c.args.replacer.now z q.0) (sym w.1) (goes_stopped k c.args.replacer.now c.matches.replacer (string_bytes before.out) before.last before.found before.left (todo_of before) q.0 refl (inl w.0) c.matches.invariant.goes))
-    (λ r. goes_refused k c.args.replacer.now c.matches.replacer last (string_bytes before.out) before.last before.found before.left item (todo_of before) (todo_of match) (seen_of (rewriting_regex match) (rewriting_text match) item) q.0 refl (rw c.in-Some.is at c.in_ok-item.ensures.steps) seen r c.matches.invariant.goes)
+    (λ r. goes_refused k c.args.replacer.now c.matches.replacer last (string_bytes before.out) before.last before.found before.left item (todo_of before) (todo_of match) (seen_of (rewriting_regex match) (rewriting_text match) item) q.0 refl (rw c.in-Some.is at c.in_ok-item.ensures.steps ∙ ap (λ (i : MatchItem). i ∷ todo_of match) (rw c.in-Some.is at (c.in_ok-item.ensures.held c.matches.invariant.asks))) seen r c.matches.invariant.goes)
     (rw q.2 c.in_err-push_answer.ensures.refused))

@@ -1,25 +1,22 @@
-use Rattle.std.proofs.Common.{ℕ, List, ◌∷◌, true, inr, sym, ap, ◌∙◌, refl}
+use Rattle.std.proofs.Common.{ℕ, List, inr, sym, ap, ◌∙◌, refl}
 use Rattle.std.specs.Borrow.{Bor}
 use Rattle.fancy_core.proofs.RefusedFromLemmas.{search_refused}
 use Rattle.fancy_core.proofs.ReplaceLemmas.{one_taken}
 use Rattle.fancy_core.proofs.AllowedLemmas.{allows_reached, allows_ended, allows_further, allows_moved}
-use Rattle.fancy_core.specs.Rewriting.{rewriting_regex, rewriting_text}
+use Rattle.fancy_core.specs.Rewriting.{next_of, rewriting_regex, rewriting_text}
 use Rattle.fancy_core.specs.Regexes.{program_in}
 use Rattle.fancy_search.proofs.HeldLemmas.{held_item}
-use Rattle.fancy_search.specs.MatchList.{MatchItem}
-use Rattle.fancy_search.specs.Remaining.{scan, upcoming}
 use Rattle.fancy_search.specs.Searchers.{standing_of, left_of}
 use Rattle.fancy_core.proofs.rewriting.Rewriting.next_match.Goals as goal
 
 pub returns-in_ok-push_str-in-Some-Ok-clause-steps : goal.returns-in_ok-push_str-in-Some-Ok-clause-steps
 returns-in_ok-push_str-in-Some-Ok-clause-steps c =
-    let before = c.args.self.now in
-    let next = upcoming (scan (program_in before.regex.now) true before.searcher.haystack.now before.searcher.request) (standing_of before.searcher) in
-    let held = rw c.in-Some-Ok.field-0-is at (c.in-Some-Ok.ensures.groups_held before.asks) in
     rw c.one_fewer-self.ensures
-    (one_taken before.left _ _ _ (sym c.is_reached.ensures ∙ c.if-is_reached.false)
-    (rw c.in-Some-Ok.field-0-is at c.in-Some-Ok.ensures.steps
-    ∙ ap (λ (i : MatchItem). i ∷ left_of (program_in before.regex.now) c.next_item.new.self) (held_item c.next_item.new.cache next c.in-Some-Ok.item held)))
+    (one_taken c.args.self.now.left _ _ _ (sym c.is_reached.ensures ∙ c.if-is_reached.false) (rw c.in-Some-Ok.field-0-is at c.in-Some-Ok.ensures.steps))
+
+pub returns-in_ok-push_str-in-Some-Ok-clause-held : goal.returns-in_ok-push_str-in-Some-Ok-clause-held
+returns-in_ok-push_str-in-Some-Ok-clause-held c asks =
+    held_item c.next_item.new.cache (next_of c.args.self.now) c.in-Some-Ok.item (rw c.in-Some-Ok.field-0-is at (c.in-Some-Ok.ensures.groups_held asks))
 
 pub returns-in-Some-Err-clause-refused : goal.returns-in-Some-Err-clause-refused
 returns-in-Some-Err-clause-refused c =
