@@ -130,15 +130,14 @@ fn walk(attempt: &Attempt, cells: &Cells, from: Sole) -> Sole
     requires sole { IsSole attempt.now cells.now from }
     ensures reaches { Reaches attempt.now cells.now from.stand.place result }
 {
-    let to = if is_wide_at(attempt, from.stand.place) {
-        from
-    } else {
-        follow(attempt, cells, from)
-    };
-    if to.is_over(cells) || !is_wide_at(attempt, to.stand.place) {
-        return to;
+    let mut to = from;
+    if !is_wide_at(attempt, to.stand.place) {
+        to = follow(attempt, cells, to);
     }
-    follow_any(attempt, cells, to)
+    if is_wide_at(attempt, to.stand.place) && !to.is_over(cells) {
+        to = follow_any(attempt, cells, to);
+    }
+    to
 }
 
 /// The first place at which a match may begin, from where a walk ended: where its ways began, or if none waits and nothing was found, the
