@@ -120,7 +120,7 @@ fn told_end(attempt: &Attempt, cells: &Cells, at: Sole) -> Option<Option<Span>>
 pub struct Candidate {
     /// That place, a byte offset, past the end of the range where there is none.
     pub told: usize,
-    /// How many bytes the steps told to have no match begin there that no scan tells.
+    /// How many bytes it is past the first place that a scan finds.
     pub passed: usize,
 }
 

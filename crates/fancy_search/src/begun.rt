@@ -36,7 +36,7 @@ impl Led {
     }
 }
 
-/// The attempts by the runner in a search that the automaton led, up to a match.
+/// The attempts by the runner in a search that the automaton led.
 #[derive(Clone, Copy)]
 pub(crate) struct Attempts {
     /// Where they began.

@@ -97,7 +97,7 @@ impl Kept {
 pub struct RememberedSteps {
     pub(crate) cells: Cells,
     read: ReadPast,
-    /// How many more bytes were read twice than were passed over, where these steps lead the runner, at the least.
+    /// How many bytes were read twice, where these steps lead the runner, that none passed over made up for.
     vain: usize,
 }
 
