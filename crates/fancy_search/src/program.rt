@@ -757,12 +757,13 @@ impl Program {
             found,
             steps: work.steps() - before,
         };
-        let kept = self.learn(haystack, request, attempts, steps, work)?;
+        let kept = self.learn(haystack, request, attempts, steps, work);
         Ok(Led { found, kept })
     }
 
     /// What is kept after the runner searched from where the steps told. Where they did not tell where the match begins, or that there is
-    /// none, those from the first place on are computed for later searches, as far as the search may take so many more steps.
+    /// none, those from the first place on are computed for later searches, as far as the search may take so many more steps. Where no memory
+    /// is left for them, the runner serves alone from then on.
     fn learn(
         &self,
         haystack: &[u8],
@@ -770,11 +771,11 @@ impl Program {
         attempts: Attempts,
         steps: &mut RememberedSteps,
         work: &mut Work,
-    ) -> Result<Kept>
+    ) -> Kept
         requires followable { IsFollowable self.now haystack.now request }
         requires kept { AreStepsOf self.now.code steps.old }
         ensures kept { AreStepsOf self.now.code steps.new }
-        ensures left { IfOk result (λ k. keeps_no_table k ≡ true) }
+        ensures left { keeps_no_table result ≡ true }
         ensures steps { steps_of work.old ≤ steps_of work.new }
         ensures bounded { (steps_of work.new ≡ steps_of work.old) ⊎ (attempts.steps + steps_of work.new
             ≤ steps_of work.old + step_bound self.now request) }
@@ -782,7 +783,6 @@ impl Program {
             (asked_of self.now haystack.now request on) → steps_of work.new ≡ steps_of work.old }
         ensures returns { returns_of work.new ≡ returns_of work.old }
         ensures units { units_of work.new ≡ units_of work.old }
-        ensures refused { IfErr result (λ e. e ≡ Error.Memory) }
     {
         let Attempts {
             from,
@@ -792,7 +792,7 @@ impl Program {
         let end = match found {
             Some(found) if found.position == from.told => {
                 let twice = found.end.saturating_sub(from.told);
-                return Ok(steps.lead_on(found.end, from.passed, twice));
+                return steps.lead_on(found.end, from.passed, twice);
             }
             Some(found) => found.end,
             None => request.range_end,
@@ -801,7 +801,7 @@ impl Program {
         let places = (last + 1).saturating_sub(first);
         let left = places_left(self.code.len(), places, taken).min(MOST_LEARNT);
         if left == 0 {
-            return Ok(Kept::Steps);
+            return Kept::Steps;
         }
         let part = Request {
             range_end: end.min(last).min(first.saturating_add(left - 1)),
@@ -811,12 +811,12 @@ impl Program {
         let reached = work.steps();
         let cells = &mut steps.cells;
         if automaton::find(&self.code, haystack, part, options, cells, work).is_err() {
-            return Err(Error::Memory);
+            return Kept::Runner(None);
         }
         if work.steps() > reached {
-            return Ok(Kept::Steps);
+            return Kept::Steps;
         }
-        Ok(steps.lead_on(end, 0, taken))
+        steps.lead_on(end, 0, taken)
     }
 
     /// What the automaton serves as, which tells no group: none takes part where the code ends none, and else they are not asked.

@@ -1,1 +1,0 @@
-use Rattle.fancy_search.proofs.program.places_left.Goals as goal

@@ -1,4 +1,4 @@
-use Rattle.std.proofs.Common.{◌≡◌, ◌≤◌, ◌+◌, ◌-◌, arith, inr}
+use Rattle.std.proofs.Common.{◌+◌, ◌-◌, arith, inr}
 use Rattle.fancy_input.specs.Requests.{effective_start}
 use Rattle.fancy_input.specs.Work.{steps_of}
 use Rattle.fancy_states.proofs.RememberedLemmas.{remembers, recalls}

@@ -1,4 +1,4 @@
-use Rattle.std.proofs.Common.{◌≡◌, ◌+◌, ◌∙◌, Option, None, Some, ap, arith, refl, sym}
+use Rattle.std.proofs.Common.{◌+◌, ◌∙◌, Option, ap, arith, refl, sym, inl, inr}
 use Rattle.std.proofs.lemmas.Result.{err_from_is_err_and}
 use Rattle.fancy_input.specs.Requests.{effective_start}
 use Rattle.fancy_automaton.specs.Decided.{IsAnsweredFrom}
@@ -27,8 +27,8 @@ returns-then-from-request-clause-kept c = record { true_of = remembers c.find_ca
 pub returns-in_err-found-clause-kept : goal.returns-in_err-found-clause-kept
 returns-in_err-found-clause-kept c = record { true_of = remembers c.find_candidate.new.cells c.args.self.now.code c.find_candidate.ensures.all; within = c.find_candidate.ensures.kept }
 
-pub learn-requires-clause-kept : goal.learn-requires-clause-kept
-learn-requires-clause-kept c = record { true_of = remembers c.find_candidate.new.cells c.args.self.now.code c.find_candidate.ensures.all; within = c.find_candidate.ensures.kept }
+pub learn-kept-requires-clause-kept : goal.learn-kept-requires-clause-kept
+learn-kept-requires-clause-kept c = record { true_of = remembers c.find_candidate.new.cells c.args.self.now.code c.find_candidate.ensures.all; within = c.find_candidate.ensures.kept }
 
 pub returns-then-from-request-clause-answer : goal.returns-then-from-request-clause-answer
 returns-then-from-request-clause-answer c on =
@@ -50,11 +50,6 @@ returns-in_err-found-clause-refused c =
     let q = err_from_is_err_and c.from_residual.result c.from_residual.ensures.1 in
     rw (q.1, q.2) (only_memory {A = Option Found} c.args.self.now _ c.in_err-found.ensures.refused (c.in_err-found.ensures.unlimited refl allowed))
 
-pub returns-in_err-kept-clause-idle : goal.returns-in_err-kept-clause-idle
-returns-in_err-kept-clause-idle c on none =
-    c.learn.ensures.idle on none
-    ∙ c.run.ensures.idle on (rest_untried c.args.self.now c.args.haystack.now c.args.request c.in-Ok.from.told c.in-Ok.ensures.forth (program_options c.args.self.now).seek on none)
-
 pub returns-clause-answer : goal.returns-clause-answer
 returns-clause-answer c on =
     let told = c.in-Ok.from.told in
@@ -66,5 +61,14 @@ returns-clause-answer c on =
 
 pub returns-clause-idle : goal.returns-clause-idle
 returns-clause-idle c on none =
-    c.learn.ensures.idle on none
+    c.learn-kept.ensures.idle on none
     ∙ c.run.ensures.idle on (rest_untried c.args.self.now c.args.haystack.now c.args.request c.in-Ok.from.told c.in-Ok.ensures.forth (program_options c.args.self.now).seek on none)
+
+pub returns-clause-bounded : goal.returns-clause-bounded
+returns-clause-bounded c =
+    let rest = record c.args.request { start = c.in-Ok.from.told } in
+    let fewer = fewer_from (program_length c.args.self.now) (effective_start c.args.request) (effective_start rest) (c.args.request.range_end + 1) (omega (arith, c.in-Ok.ensures.forth)) in
+    elim c.learn-kept.ensures.bounded [
+      | inl same ↦ omega (arith, same, fewer, c.run.ensures.bounded)
+      | inr more ↦ omega (arith, more, c.steps.ensures, c.steps-before.ensures)
+    ]
