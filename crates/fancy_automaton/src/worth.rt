@@ -7,7 +7,8 @@ use fancy_code::found::Found;
 use fancy_input::input::Request;
 use fancy_prefilter::branches::WIDE;
 use fancy_prefilter::candidates::next_opening;
-use fancy_prefilter::prefilter::{Anchor, Prefilter};
+use fancy_prefilter::prefilter::{Anchor, Opening, Prefilter};
+use fancy_states::origin::begin_sometimes;
 use fancy_tree::char_set::CharSet;
 
 /// The automaton's first steps take about as long as so many of the runner for each instruction of the code.
@@ -33,6 +34,9 @@ pub const TABLE: usize = 8_388_608;
 
 /// A set with that many ASCII characters is wide, as `[a-z]` is.
 const WIDE_SET: usize = 26;
+
+/// A table of words that tells them apart by so many bytes is scanned for quickly.
+const QUICK_WIDTH: usize = 3;
 
 /// Whether the code opens with many branches, one of which is taken at each position: an alternation of that many, or as
 /// many repeats in a row that may consume nothing.
@@ -89,10 +93,15 @@ fn starts_in_ascii(prefilter: &Prefilter) -> bool {
     false
 }
 
-/// Whether each match opens with one of many words that a table tells apart: it tells all bytes past ASCII from the others, and not from
-/// one another.
+/// Whether each match opens with one of many words that a table tells apart by so many first bytes that the scan for them is quick: it tells
+/// all bytes past ASCII from the others, and not from one another.
 fn tells_words(prefilter: &Prefilter) -> bool {
-    prefilter.has_words() && starts_in_ascii(prefilter)
+    match &prefilter.opening {
+        Opening::Words(branches) => {
+            branches.table.width >= QUICK_WIDTH && starts_in_ascii(prefilter)
+        }
+        _ => false,
+    }
 }
 
 /// Whether a scan tells little of where matches begin: none is made for what they open with, and they may start with different bytes.
@@ -111,7 +120,7 @@ pub fn least_steps(code: &Code) -> Option<usize> {
     if tells_words(prefilter) {
         return None;
     }
-    if is_told_little(prefilter) {
+    if is_told_little(prefilter) || begin_sometimes(prefilter) {
         return Some(LEAST_STEPS);
     }
     if opens_wide(code) || has_wide_loop(code) {

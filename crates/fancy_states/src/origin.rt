@@ -31,21 +31,105 @@ fn are_all(numbers: &[usize], one: usize) -> bool
     numbers.iter().all(|number| *number == one)
 }
 
-/// Whether matches may begin with each of the commonest letters, so that a scan for places where they may would seldom go far.
-fn begin_often(prefilter: &Prefilter) -> bool {
-    match &prefilter.starts {
-        None => true,
-        Some(starts) => b"etaoin".iter().all(|letter| starts.contains(*letter)),
-    }
+/// How many of a thousand letters of English text are each of these.
+const SHARES: [(u8, usize); 26] = [
+    (b'e', 127),
+    (b't', 91),
+    (b'a', 82),
+    (b'o', 75),
+    (b'i', 70),
+    (b'n', 67),
+    (b's', 63),
+    (b'h', 61),
+    (b'r', 60),
+    (b'd', 43),
+    (b'l', 40),
+    (b'c', 28),
+    (b'u', 28),
+    (b'm', 24),
+    (b'w', 24),
+    (b'f', 22),
+    (b'g', 20),
+    (b'y', 20),
+    (b'p', 19),
+    (b'b', 15),
+    (b'v', 10),
+    (b'k', 7),
+    (b'j', 1),
+    (b'q', 1),
+    (b'x', 1),
+    (b'z', 1),
+];
+
+/// So many of the first places of a match are looked at, where they are scanned for.
+const PLACES: usize = 4;
+
+/// Where matches may begin at so many of a thousand places among letters, a scan for their first bytes would seldom go far.
+const OFTEN: usize = 250;
+
+/// The same of a scan for what they open with, which costs more.
+const OFTEN_SCANNED: usize = 80;
+
+/// Where they may begin at so many, a scan tells little of where they do.
+const SOMETIMES: usize = 30;
+
+/// Whether a match may have a byte so many places after its first, as far as is told.
+fn may_have(prefilter: &Prefilter, place: usize, byte: u8) -> bool {
+    let starts = match &prefilter.starts {
+        Some(starts) if place == 0 => starts.contains(byte),
+        _ => true,
+    };
+    starts && prefilter.opening.may_hold(place, byte)
 }
 
-/// Whether a search is left to a scan where no way waits: where that finds starts of lines, or more than first bytes, or seldom a place.
+/// How many of a thousand letters a match may have there.
+fn share_at(prefilter: &Prefilter, place: usize) -> usize {
+    let mut sum = 0usize;
+    for (letter, share) in SHARES {
+        if may_have(prefilter, place, letter) {
+            sum = sum.saturating_add(share);
+        }
+    }
+    sum
+}
+
+/// Whether matches may begin at so many of a thousand places among letters, by what is scanned for.
+fn begin_at(prefilter: &Prefilter, least: usize) -> bool {
+    let places = if prefilter.scans_for_opening() {
+        PLACES
+    } else {
+        1
+    };
+    let mut often = 1000usize;
+    for place in 0..places {
+        often = often.saturating_mul(share_at(prefilter, place)) / 1000;
+        if often < least {
+            return false;
+        }
+    }
+    true
+}
+
+/// Whether matches may begin at so many places among letters that a scan for such places tells little of where they do.
+pub fn begin_sometimes(prefilter: &Prefilter) -> bool {
+    begin_at(prefilter, SOMETIMES)
+}
+
+/// Whether they may begin at so many that it would seldom go far.
+fn begin_often(prefilter: &Prefilter) -> bool {
+    let least = if prefilter.scans_for_opening() {
+        OFTEN_SCANNED
+    } else {
+        OFTEN
+    };
+    begin_at(prefilter, least)
+}
+
+/// Whether a search is left to a scan where no way waits: where that finds starts of lines, or few places.
 fn is_left_to_scan(prefilter: &Prefilter) -> bool {
     match prefilter.anchor {
         Anchor::AtStart | Anchor::AtLines(_) => true,
-        Anchor::Anywhere | Anchor::AtWords(_) => {
-            prefilter.scans_for_opening() || !begin_often(prefilter)
-        }
+        Anchor::Anywhere | Anchor::AtWords(_) => !begin_often(prefilter),
     }
 }
 
