@@ -174,7 +174,7 @@ fn seek(attempt: &Attempt, cells: &Cells, from: Sole, idle: usize, any: bool) ->
     }
 }
 
-/// The next place at which a match may begin, if no way waits and nothing was found.
+/// The next place at which a match may begin, if no way waits and nothing was found, and first bytes tell it.
 #[inline(always)]
 fn skip(attempt: &Attempt, cells: &Cells, from: Sole, idle: usize) -> Option<Sole>
     requires idle { IsIdle cells.now.rows.lists.items idle }
@@ -182,7 +182,7 @@ fn skip(attempt: &Attempt, cells: &Cells, from: Sole, idle: usize) -> Option<Sol
     requires nothing { from.end ≡ None }
     ensures { IfSome result (Reaches attempt.now cells.now from.stand.place) }
 {
-    if from.stand.next != idle {
+    if from.stand.next != idle || passes_far(attempt) {
         return Some(from);
     }
     let place = next_place(attempt, from.stand.place);
@@ -321,6 +321,9 @@ pub(crate) fn follow(attempt: &Attempt, cells: &Cells, from: Sole) -> Sole
             None => return at,
             Some(next) => at = next,
         }
+        if at.stand.next == idle && passes_far(attempt) {
+            return at;
+        }
     }
     if at.stand.next == idle {
         return at;
@@ -344,6 +347,9 @@ pub(crate) fn follow_any(attempt: &Attempt, cells: &Cells, from: Sole) -> Sole
         match past(attempt, cells, at, idle, true) {
             None => return at,
             Some(next) => at = next,
+        }
+        if at.stand.next == idle && passes_far(attempt) {
+            return at;
         }
     }
     if at.stand.next == idle {

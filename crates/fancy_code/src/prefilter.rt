@@ -292,8 +292,17 @@ fn sets_at_start(alloc: Global, code: &Code, places: usize) -> Result<Vec<ByteSe
     Ok(sets)
 }
 
+/// Whether sets are so many that few words are as long, and none has the blank. Where each match starts at the boundary of a word, they
+/// are to be more: it is looked for too.
+fn are_unbroken(code: &Code, sets: &[ByteSet]) -> bool {
+    if sets.len() < PLACES || sets.iter().any(|set| set.contains(b' ')) {
+        return false;
+    }
+    sets.len() >= MORE_PLACES || !starts_at(code, Assertion::WordBoundary)
+}
+
 /// The sets of the bytes that may stand at the first places of a match, and whether they are worth a scan: at some places, or else at
-/// more, if one past the first has few bytes; at fewer if besides no run of one kind of byte has a byte of each.
+/// more, if one past the first has few bytes, or none has the blank; at fewer if besides no run of one kind of byte has a byte of each.
 fn first_sets(alloc: Global, code: &Code) -> Result<(Vec<ByteSet>, bool), AllocError>
     ensures { IfOk result (λ told. AreForetold told.0.items code.now) }
 {
@@ -308,7 +317,7 @@ fn first_sets(alloc: Global, code: &Code) -> Result<(Vec<ByteSet>, bool), AllocE
         return Ok((sets, is_worth));
     }
     let more = sets_at_start(alloc, code, MORE_PLACES)?;
-    if are_telling(&more) {
+    if are_telling(&more) || are_unbroken(code, &more) {
         return Ok((more, true));
     }
     Ok((sets, false))

@@ -14,16 +14,17 @@ module _ (sets : List ByteFlags) (haystack : List ℕ) (end : ℕ) where
       omega (arith, last.0, past, some)
 
   -- a window is moved on by a skip, past windows that have the byte where their set does not have it
-  pub none_skipped : (place skip : ℕ) → 0 < length sets → IsSkip sets (slice_index haystack (place + (length sets - 1))) skip → NoneStandsIn sets haystack end place (place + skip)
-  none_skipped place skip some is k from before stands =
-      let j : ℕ = place + (length sets - 1) - k in
-      let there : k + j ≡ place + (length sets - 1) = omega (arith, from, before, is.within, some) in
-      let inside : j < length sets = omega (arith, from, some) in
-      let late : length sets ≤ j + skip = omega (arith, from, before, some) in
+  pub none_skipped : (place at skip : ℕ) → at < length sets → length sets ≤ at + skip → IsSkip sets (slice_index haystack (place + at)) skip
+      → NoneStandsIn sets haystack end place (place + (at + skip + 1 - length sets))
+  none_skipped place at skip inside most is k from before stands =
+      let j : ℕ = place + at - k in
+      let there : k + j ≡ place + at = omega (arith, from, before, is.within, most) in
+      let within : j < length sets = omega (arith, from, inside) in
+      let late : length sets ≤ j + skip = omega (arith, from, before, most) in
       true≢false
-      (sym (stands j (omega arith) inside).1
+      (sym (stands j (omega arith) within).1
       ∙ ap (λ (i : ℕ). member (set_at sets j) (slice_index haystack i)) there
-      ∙ is.lacks j inside late)
+      ∙ is.lacks j within late)
 
   -- windows that were passed over, and more of them
   pub none_further : (from place next : ℕ) → NoneStandsIn sets haystack end from place → NoneStandsIn sets haystack end place next → NoneStandsIn sets haystack end from next

@@ -19,6 +19,11 @@ use std::marker::Model;
 /// From so many marked windows of 32 on they are gone through by skips, and not one after another by the sets.
 const MANY_MARKS: u32 = 6;
 
+/// Whether a set has most of the letters that are frequent.
+fn has_common(set: &ByteSet) -> bool {
+    b"etaoinsrhl".iter().all(|letter| set.contains(*letter))
+}
+
 /// By how many places a window may be moved on where this byte stands last in it.
 fn skip_of(sets: &[ByteSet], byte: u8) -> u8
     requires { length sets.now < 256 }
@@ -52,6 +57,8 @@ pub struct Window {
     sets: Vec<ByteSet>,
     skips: Vec<u8>,
     probes: Probes,
+    // whether it is moved by skips alone, since the probes would let most windows begin
+    by_skips: bool,
 }
 
 impl Model for Window {
@@ -73,10 +80,12 @@ impl Window {
         }
         let skips = skips_of(alloc, &sets)?;
         let probes = Probes::new(&sets);
+        let by_skips = sets.iter().all(has_common);
         Ok(Some(Window {
             sets,
             skips,
             probes,
+            by_skips,
         }))
     }
 
@@ -99,6 +108,24 @@ impl Window {
             }
         }
         true
+    }
+
+    /// By how many places the window at a place may be moved on, as far as one of its bytes tells that. The last ones are asked first.
+    #[inline(always)]
+    fn skip_at(&self, haystack: &[u8], place: usize) -> usize
+        requires { place + length self.now ≤ length haystack.now }
+        ensures none { (end : ℕ) → NoneStandsIn self.now haystack.now end place (place + result) }
+        ensures within { result ≤ length self.now }
+    {
+        let width = self.sets.len();
+        for passed in 0..width {
+            let byte = haystack[place + (width - 1 - passed)];
+            let skip = self.skips[byte as usize] as usize;
+            if skip > passed {
+                return skip - passed;
+            }
+        }
+        0
     }
 
     /// Which of the 32 windows from the one at this place on are to be looked at.
@@ -187,6 +214,9 @@ impl Window {
         if from < end && width <= end - from && self.stands_at(haystack, from) {
             return Some(from);
         }
+        if self.by_skips {
+            return self.seen_by_skips(haystack, from, end);
+        }
         self.seen_ahead(haystack, from, end)
     }
 
@@ -219,7 +249,7 @@ impl Window {
         let width = self.sets.len();
         let mut place = from;
         while place < end && width <= end - place {
-            let skip = self.skips[haystack[place + (width - 1)] as usize] as usize;
+            let skip = self.skip_at(haystack, place);
             if skip > 0 {
                 place += skip;
             } else if self.stands_at(haystack, place) {

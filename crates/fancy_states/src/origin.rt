@@ -64,6 +64,9 @@ const SHARES: [(u8, usize); 26] = [
 /// So many of the first places of a match are looked at, where they are scanned for.
 const PLACES: usize = 4;
 
+/// So many places in a row stand seldom that none of them is a blank.
+const LONG: usize = 8;
+
 /// Where matches may begin at so many of a thousand places among letters, a scan for their first bytes would seldom go far.
 const OFTEN: usize = 250;
 
@@ -95,6 +98,9 @@ fn share_at(prefilter: &Prefilter, place: usize) -> usize {
 
 /// Whether matches may begin at so many of a thousand places among letters, by what is scanned for.
 fn begin_at(prefilter: &Prefilter, least: usize) -> bool {
+    if !prefilter.opening.may_hold(LONG - 1, b' ') && prefilter.scans_for_opening() {
+        return false;
+    }
     let places = if prefilter.scans_for_opening() {
         PLACES
     } else {
