@@ -30,6 +30,9 @@ const PLACES: usize = 8;
 /// At how many places they are told where those tell too little.
 const MORE_PLACES: usize = 16;
 
+/// So many places in a row at which one set stands are scanned for.
+const SHORT_ROW: usize = 3;
+
 /// At how many places they are told where those are too many to be followed.
 const FEWER_PLACES: usize = 3;
 
@@ -292,13 +295,25 @@ fn sets_at_start(alloc: Global, code: &Code, places: usize) -> Result<Vec<ByteSe
     Ok(sets)
 }
 
-/// Whether sets are so many that few words are as long, and none has the blank. Where each match starts at the boundary of a word, they
-/// are to be more: it is looked for too.
+/// Whether all sets have the same bytes.
+fn are_alike(sets: &[ByteSet]) -> bool {
+    let mut all = ByteSet::new();
+    for set in sets {
+        all = all.union(set);
+    }
+    sets.iter().all(|set| set.len() == all.len())
+}
+
+/// Whether sets are so many that few words are as long, and none has the blank; one set that stands in a row may be of fewer. Where each
+/// match starts at the boundary of a word, they are to be more: it is looked for too.
 fn are_unbroken(code: &Code, sets: &[ByteSet]) -> bool {
-    if sets.len() < PLACES || sets.iter().any(|set| set.contains(b' ')) {
+    if sets.len() < SHORT_ROW || sets.iter().any(|set| set.contains(b' ')) {
         return false;
     }
-    sets.len() >= MORE_PLACES || !starts_at(code, Assertion::WordBoundary)
+    if starts_at(code, Assertion::WordBoundary) {
+        return sets.len() >= MORE_PLACES;
+    }
+    sets.len() >= PLACES || are_alike(sets)
 }
 
 /// The sets of the bytes that may stand at the first places of a match, and whether they are worth a scan: at some places, or else at
@@ -314,6 +329,7 @@ fn first_sets(alloc: Global, code: &Code) -> Result<(Vec<ByteSet>, bool), AllocE
     }
     let is_worth = are_telling(&sets);
     if is_worth || sets.len() < PLACES {
+        let is_worth = is_worth || are_unbroken(code, &sets);
         return Ok((sets, is_worth));
     }
     let more = sets_at_start(alloc, code, MORE_PLACES)?;

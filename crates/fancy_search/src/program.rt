@@ -250,7 +250,9 @@ impl Program {
         let straight = straight_end(&code);
         let plain = is_plain(&code);
         let ungrouped = ends_no_group(&code);
-        let least_steps = if is_item_or_run(&code) {
+        let least_steps = if is_item_or_run(&code)
+            || straight.is_some() && code.prefilter.scans_for_opening()
+        {
             None
         } else {
             least_steps(&code)

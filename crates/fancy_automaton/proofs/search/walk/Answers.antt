@@ -1,4 +1,4 @@
-use Rattle.std.proofs.Common.{◌≤◌, arith, subst, sym}
+use Rattle.std.proofs.Common.{arith, subst, sym}
 use Rattle.fancy_automaton.specs.Sole.{Reaches}
 use Rattle.fancy_automaton.proofs.search.walk.Goals as goal
 use Rattle.fancy_automaton.proofs.search.walk.Goals.{then-not-is_wide_at, else-not-is_wide_at}
