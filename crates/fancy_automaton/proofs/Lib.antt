@@ -10,3 +10,4 @@ pub mod DecidedLemmas
 pub mod WalkLemmas
 pub mod ToldLemmas
 pub mod EndLemmas
+pub mod EarliestLemmas

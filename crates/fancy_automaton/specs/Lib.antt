@@ -3,3 +3,4 @@ pub mod Front
 pub mod Sole
 pub mod Decided
 pub mod Places
+pub mod Earliest

@@ -1,11 +1,11 @@
 //! The attempt at one place: all ways begin there, and none at a later one.
 
-ghost use Rattle.std.specs.Prelude.{◌≡◌, ◌+◌, ◌-◌, ◌*◌, ◌<◌, ◌≤◌, ◌≢◌, [], ℕ, false, true, IfOk, IfSome, length};
+ghost use Rattle.std.specs.Prelude.{◌≡◌, ◌+◌, ◌-◌, ◌*◌, ◌<◌, ◌≤◌, ◌≢◌, [], ℕ, List, false, true, IfOk, IfSome, length};
 ghost use Rattle.fancy_code.specs.Attempt.{may_end_in};
 ghost use Rattle.fancy_code.specs.CodeLength.{code_len};
 ghost use Rattle.fancy_input.specs.Work.{steps_of};
 ghost use Rattle.fancy_prefilter.specs.Seen.{MayStart, NoneMayStart};
-ghost use Rattle.fancy_states.specs.Cells.{HasPlace, HasRow, HoldsFor, IsFor, ways_at};
+ghost use Rattle.fancy_states.specs.Cells.{HasPlace, HasRow, HasRows, HoldsFor, IsFor, ways_at};
 ghost use Rattle.fancy_states.specs.Counts.{AddsSteps};
 ghost use Rattle.fancy_automaton.specs.Decided.{Goal, IsDecided, IsGoal, Rests, attempt_goal, later_end};
 ghost use Rattle.fancy_states.specs.Search.{Passes, IsFollowed};
@@ -19,6 +19,7 @@ use fancy_input::span::Span;
 use fancy_input::work::Work;
 use fancy_meaning::options::is_match_boundary;
 use fancy_states::cells::{Cells, has_origin, origin, restart, seen_at, step_at};
+use fancy_states::rows::Target;
 use fancy_states::trail::span_from;
 use std::alloc::AllocError;
 
@@ -42,29 +43,37 @@ fn may_begin(attempt: &Attempt, place: usize) -> bool
     }
 }
 
-/// Forgets all but the row of the ways that wait, where one more step may be one too many. The answer is the number of that row then.
-fn make_place(attempt: &Attempt, cells: &mut Cells, row: usize) -> Result<usize, AllocError>
-    requires row { row < length cells.old.rows.lists.items }
+/// Forgets all but the row of the ways that wait, where one more step may be one too many. The answer are the numbers of that row then,
+/// and of that with one more way.
+pub(crate) fn make_place(
+    attempt: &Attempt,
+    cells: &mut Cells,
+    rows: Target,
+) -> Result<Target, AllocError>
+    requires row { rows.next < length cells.old.rows.lists.items }
     requires kept { HoldsFor cells.old attempt.now.code.now }
     ensures kept { HoldsFor cells.new attempt.now.code.now }
     ensures place { IfOk result (λ _. HasPlace cells.new) }
-    ensures row { IfOk result (λ r. HasRow cells.new.rows.lists.items r
-        (ways_at cells.old.rows.lists.items row)) }
+    ensures waits { IfOk result (λ t. HasRow cells.new.rows.lists.items t.next
+        (ways_at cells.old.rows.lists.items rows.next)) }
+    ensures opens { IfOk result (λ t. (ways : List ℕ)
+        → HasRows cells.old.rows.lists.items rows.next rows.begun ways attempt.now.code.now.start
+        → HasRows cells.new.rows.lists.items t.next t.begun ways attempt.now.code.now.start) }
 {
     if !cells.is_full() {
-        return Ok(row);
+        return Ok(rows);
     }
-    let target = restart(cells, attempt.code.start, row)?;
-    Ok(target.next)
+    let target = restart(cells, attempt.code.start, rows.next)?;
+    Ok(target)
 }
 
-/// Whether no way waits.
-fn is_idle(cells: &Cells, at: Stand) -> bool
-    requires { at.next < length cells.now.rows.lists.items }
-    ensures none { result ≡ true → ways_at cells.now.rows.lists.items at.next ≡ [] }
-    ensures some { result ≡ false → ways_at cells.now.rows.lists.items at.next ≢ [] }
+/// Whether no way waits: the row with this number has none.
+pub(crate) fn is_idle(cells: &Cells, row: usize) -> bool
+    requires { row < length cells.now.rows.lists.items }
+    ensures none { result ≡ true → ways_at cells.now.rows.lists.items row ≡ [] }
+    ensures some { result ≡ false → ways_at cells.now.rows.lists.items row ≢ [] }
 {
-    cells.rows.lists[at.next].len() == 0
+    cells.rows.lists[row].len() == 0
 }
 
 /// Whether a walk went on far past where its match ends, or if it found none, past its start.
@@ -141,12 +150,12 @@ fn advance(
     ensures decided { IfOk result (λ to. (goal : Goal)
         → IsDecided attempt.now cells.old goal from → IsDecided attempt.now cells.new goal to) }
 {
-    let row = make_place(attempt, cells, from.stand.next)?;
+    let rows = make_place(attempt, cells, from.stand.rows())?;
     // The row with one more way is not asked.
     let at = Sole {
         stand: Stand {
             place: from.stand.place,
-            next: row,
+            next: rows.next,
             begun: from.stand.begun,
             opened: from.stand.opened,
         },
@@ -154,7 +163,7 @@ fn advance(
         end: from.end,
     };
     let to = step(attempt, cells, at, work)?;
-    if is_idle(cells, to.stand) {
+    if is_idle(cells, to.stand.next) {
         return Ok(to);
     }
     Ok(lengthen(attempt, cells, to, true))
@@ -188,7 +197,7 @@ pub(crate) fn span_told(attempt: &Attempt, cells: &Cells) -> Option<Option<Span>
         end: None,
     };
     let to = lengthen(attempt, cells, from, false);
-    if !is_idle(cells, to.stand) {
+    if !is_idle(cells, to.stand.next) {
         return None;
     }
     if reads_far_past(to) {
@@ -235,7 +244,7 @@ pub(crate) fn span_at(
     };
     let mut at = lengthen(attempt, cells, from, true);
     'places: loop {
-        if is_idle(cells, at.stand) {
+        if is_idle(cells, at.stand.next) {
             cells.reached = at.stand.place;
             return Ok(span_from(at.start, at.end));
         }

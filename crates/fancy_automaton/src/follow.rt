@@ -87,7 +87,7 @@ pub(crate) fn next_start(attempt: &Attempt, from: usize, region: &mut Option<usi
 
 /// Where a search stands at a place, a byte offset, after the last step that it took, if it took one.
 #[inline(always)]
-fn came_to(from: Stand, place: usize, last: Option<&Transition>) -> Stand
+pub(crate) fn came_to(from: Stand, place: usize, last: Option<&Transition>) -> Stand
     ensures { result ≡ came_to from place (option_map (λ t. t.now) last.entry) }
 {
     match last {
@@ -108,7 +108,7 @@ fn came_to(from: Stand, place: usize, last: Option<&Transition>) -> Stand
 
 /// Whether a match may start at a place, by its byte.
 #[inline(always)]
-fn may_start(attempt: &Attempt, place: usize) -> bool
+pub(crate) fn may_start(attempt: &Attempt, place: usize) -> bool
     requires { attempt.now.last ≤ length attempt.now.haystack.now }
 {
     match &attempt.code.prefilter.starts {

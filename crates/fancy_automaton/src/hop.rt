@@ -15,6 +15,7 @@ ghost use Rattle.fancy_states.specs.declared.cells.Cell.{Cell};
 use crate::told::told_at;
 use fancy_code::attempt::Attempt;
 use fancy_states::cells::Cells;
+use fancy_states::rows::Target;
 use fancy_states::trail::{Hit, Trail, VISITS, Visit, note_hit, start_at};
 use fancy_states::transitions::{Entry, Transition};
 use std::alloc::AllocError;
@@ -30,6 +31,19 @@ pub struct Stand {
     pub begun: usize,
     /// Where the columns of that row begin for what stands before the place.
     pub opened: u32,
+}
+
+impl Stand {
+    /// The two rows.
+    #[inline(always)]
+    pub(crate) fn rows(self) -> Target
+        ensures { result ≡ record { next = self.next; begun = self.begun } }
+    {
+        Target {
+            next: self.next,
+            begun: self.begun,
+        }
+    }
 }
 
 /// Where the columns of a row begin for what stands before a place, a byte offset.

@@ -16,6 +16,7 @@
 
 mod amid;
 mod anchored;
+pub mod earliest;
 pub mod follow;
 pub mod front;
 pub mod hop;

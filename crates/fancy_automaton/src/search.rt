@@ -19,6 +19,7 @@ ghost use Rattle.fancy_automaton.specs.Decided.{BeginsFrom, IsAnsweredFrom, IsGo
 ghost use Rattle.fancy_automaton.specs.Sole.{IsSole, Reaches};
 
 use crate::anchored::{span_at, span_told};
+use crate::earliest::has_match;
 use crate::follow::{follow, follow_any, next_start};
 use crate::front::Front;
 use crate::sole::Sole;
@@ -311,6 +312,57 @@ pub fn find(
     };
     let found = span_in(&attempt, request.anchored, cells, work)?;
     Ok(found_by(found))
+}
+
+/// Whether [`find`] finds anything for a request that is not anchored. It ends where the first match does. Steps are remembered and
+/// counted as they are there.
+///
+/// # Errors
+///
+/// `SearchRefusal::Memory` where memory runs out, and no other.
+#[inline(always)]
+pub fn is_match(
+    code: &Code,
+    haystack: &[u8],
+    request: Request,
+    options: SearchOptions,
+    cells: &mut Cells,
+    work: &mut Work,
+) -> Result<bool, SearchRefusal>
+    requires inside { request.range_end ≤ length haystack.now }
+    requires unanchored { request.anchored ≡ false }
+    requires plain { ArePlain (instrs_of code.now) }
+    requires reads { KeepsPlaces haystack.now code.now.meaning options.on_boundaries }
+    requires kept { IsBounded cells.old }
+    requires all { IsFor cells.old code.now }
+    ensures answer { IfOk result (λ b. (p : Pattern) (on : Bool) → IsCodeOf p code.now
+        → b ≡ is_some (search (query_of p code.now (unfiltered options) haystack.now request on))) }
+    ensures kept { IsBounded cells.new }
+    ensures all { IsFor cells.new code.now }
+    ensures steps { steps_of work.old ≤ steps_of work.new }
+    ensures bounded { steps_of work.new ≤ steps_of work.old + most_steps code.now request }
+    ensures idle { NoneMayStart code.now.prefilter.starts haystack.now request.range_end
+        (effective_start request) (request.range_end + 1)
+        → steps_of work.new ≡ steps_of work.old }
+    ensures returns { returns_of work.new ≡ returns_of work.old }
+    ensures units { units_of work.new ≡ units_of work.old }
+    ensures refused { IfErr result (λ e. e ≡ SearchRefusal.Memory) }
+{
+    let first = request.effective_start();
+    if first > request.range_end {
+        return Ok(false);
+    }
+    let attempt = Attempt {
+        code,
+        haystack,
+        base: first,
+        last: request.range_end,
+        on_boundaries: options.on_boundaries,
+        suppressed: options.suppressed_ends(request),
+        step_limit: None,
+    };
+    let found = has_match(&attempt, cells, work)?;
+    Ok(found)
 }
 
 /// Where a match may begin that is asked for, as far as steps tell it that `cells` remembers. No step is computed.

@@ -35,6 +35,7 @@ impl Sole {
         requires within { place ≤ attempt.now.last }
         ensures sole { IsSole attempt.now cells.now result }
         ensures place { result.stand.place ≡ place }
+        ensures nothing { result.end ≡ None }
     {
         Sole {
             stand: Stand {

@@ -1,5 +1,5 @@
 -- A search that answers with none has no position with an accepted outcome.
-use Rattle.std.proofs.Common.{◌≡◌, ◌↔◌, Option, Some, None, option_map, is_some, refl, sym, ap, ◌∙◌}
+use Rattle.std.proofs.Common.{◌≡◌, ◌↔◌, Option, Some, None, option_map, refl, sym, ap, ◌∙◌}
 use Rattle.fancy_input.specs.declared.span.Span.{Span}
 use Rattle.fancy_meaning.specs.Search.{Query, search, span_of}
 use Rattle.fancy_meaning.specs.Answers.{HasNone}
@@ -16,12 +16,3 @@ none_found span m q e = (
   λ none. (none-is_none q).0 (none_of span_of (search q) (sym e ∙ ap (option_map span) none)),
   λ nothing. none_of span m (e ∙ ap (option_map span_of) ((none-is_none q).1 nothing)),
 )
-
-some_of : {A B : Type 0} (f : A → B) (m : Option A) → is_some (option_map f m) ≡ is_some m
-some_of f None = refl
-some_of f (Some x) = refl
-
--- there is a match exactly where the search answers with one
-pub some_found : {A : Type 0} (span : A → Span) (m : Option A) (q : Query) → option_map span m ≡ option_map span_of (search q) →
-    is_some m ≡ is_some (search q)
-some_found span m q e = sym (some_of span m) ∙ ap is_some e ∙ some_of span_of (search q)

@@ -414,8 +414,16 @@ impl Regex {
         ensures unlimited { easy_in self.now ≡ true → AllowsEachStep self.now (request_in input)
             → IsOutOfSteps result → ⊥ }
     {
-        let first = self.find_input(input)?;
-        Ok(first.is_some())
+        let haystack = input.haystack();
+        let asked = Asked {
+            haystack: haystack.as_bytes(),
+            text: haystack.is_text(),
+            request: &input.request(),
+            continues: true,
+            groups: false,
+        };
+        let mut work = Work::new();
+        self.program.is_match(&asked, &mut work)
     }
 }
 

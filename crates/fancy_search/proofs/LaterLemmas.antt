@@ -14,7 +14,7 @@ use Rattle.fancy_meaning.specs.Search.{Query, Answer, answer_at, answer_from, co
 use Rattle.fancy_meaning.proofs.AttemptLemmas.{search_over}
 use Rattle.fancy_code.specs.Code.{instrs_of}
 use Rattle.fancy_code.specs.Compile.{AreEasy, IsCodeOf}
-use Rattle.fancy_code.specs.Queries.{answer_with}
+use Rattle.fancy_code.specs.Queries.{answer_with, query_of, unfiltered}
 use Rattle.fancy_code.specs.declared.code.Code.{Code}
 use Rattle.fancy_code.specs.declared.found.Found.{Found}
 use Rattle.fancy_code.proofs.ClassifyLemmas.{easy_code}
@@ -24,10 +24,13 @@ use Rattle.fancy_meaning.specs.Tried.{NoneTried}
 use Rattle.fancy_runner.specs.KeptTable.{past_tried}
 use Rattle.fancy_runner.specs.Searched.{IsAnsweredBy, answer_past}
 use Rattle.fancy_runner.specs.declared.search.Searched.{Searched}
+use Rattle.fancy_tree.specs.Pattern.{Pattern}
+use Rattle.fancy_meaning.specs.declared.options.SearchOptions.{SearchOptions}
+use Rattle.fancy_search.specs.Options.{search_options}
 use Rattle.fancy_search.specs.Programs.{asked_of, program_is_easy}
 use Rattle.fancy_search.specs.declared.program.Program.{Program}
 use Rattle.fancy_search.proofs.ProgramSizeLemmas.{parts_of_easy}
-use Rattle.fancy_search.proofs.SearchedLemmas.{known}
+use Rattle.fancy_search.proofs.SearchedLemmas.{known, known_tests}
 
 -- easy code answers the same at a position wherever the search begins, and wherever `\G` holds
 module _ (q : Query) (code : Code) (is : IsCodeOf q.sought.pattern code) (groups : q.sought.groups ≡ code.groups) (meant : q.sought.meaning ≡ code.meaning)
@@ -73,6 +76,12 @@ without_filters r haystack request on easy P is =
     let parts = parts_of_easy _ _ _ easy in
     let q : Bool → Bool → Query = λ n l. record (asked_of r haystack request on) { sought = record (asked_of r haystack request on).sought { not_empty = n; longest = l } } in
     subst P (ap₂ q (sym parts.1) (sym parts.2)) is
+
+-- what tells whether the code of an easy program finds something tells whether the program does
+pub tells_some : (r : Program) (haystack : List ℕ) (request : Request) (on found : Bool) (options : SearchOptions) → program_is_easy r ≡ true → options ≡ search_options r.options
+    → ((p : Pattern) → IsCodeOf p r.code → found ≡ is_some (search (query_of p r.code (unfiltered options) haystack request on))) → found ≡ is_some (search (asked_of r haystack request on))
+tells_some r haystack request on found options easy same tells =
+    without_filters r haystack request on easy (λ (q : Query). found ≡ is_some (search q)) (known_tests _ _ r.compiled (λ compiled. rw (r.meant, same) at (tells _ compiled.coded)))
 
 -- what a search came to where it found nothing
 pub past_answered : (q : Query) (groups : List (Option Span)) (s : Searched) → IsAnsweredBy q groups s → s.found ≡ None → answer_past q s.reached ≡ search q

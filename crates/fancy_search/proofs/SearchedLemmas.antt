@@ -51,6 +51,9 @@ known a b t f = ∥∥₁_elim t (hlevel props) f
 pub known_groups : {P : Type 0} (a b : List (Option Span)) → ∥ P ∥₁ → (P → a ≡ b) → a ≡ b
 known_groups a b t f = ∥∥₁_elim t (hlevel props) f
 
+pub known_tests : {P : Type 0} (a b : Bool) → ∥ P ∥₁ → (P → a ≡ b) → a ≡ b
+known_tests a b t f = ∥∥₁_elim t (hlevel props) f
+
 -- what answers a search, or an attempt at a position, stands within what was asked
 module _ (r : Program) (asked : Asked) (groups : List (Option Span)) where
   pub found_stands : (m : Option Found) → answer_with groups m ≡ search (query_in r asked) → IfSome m (StandsIn r asked)

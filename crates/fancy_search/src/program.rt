@@ -213,7 +213,7 @@ fn end_of(found: Option<Found>, request: Request) -> usize {
 }
 
 impl Program {
-    ghost use Rattle.fancy_search.specs.SearchCounts.{RefusesEasy, IsOutOfSteps, AllowsAllSteps, tried_by, is_hopeless, IfFound, IsHardProgram, RefusesQuery, RefusesAttempt, AllowsAttempt, HasRoomFor, HeedsStepLimit, step_bound};
+    ghost use Rattle.fancy_search.specs.SearchCounts.{RefusesEasy, AllowsQuery, IsOutOfSteps, AllowsAllSteps, tried_by, is_hopeless, IfFound, IsHardProgram, RefusesQuery, RefusesAttempt, AllowsAttempt, HasRoomFor, HeedsStepLimit, step_bound};
     ghost use Rattle.fancy_search.specs.Programs.{program_pattern, program_options, program_stack_limit, program_groups, program_names, program_length, program_is_easy, asked_of, query_in};
     ghost use Rattle.fancy_search.specs.Begun.{IsBegun};
     ghost use Rattle.fancy_search.specs.Served.{IsPosition, IsFollowable, StandsIn, KeepsCounts, CountsReturns, HeedsStackLimit, Serves, ServesAlone, ServesEasily};
@@ -413,6 +413,20 @@ impl Program {
         if self.is_followed(asked, &Kept::Nothing) && self.allows_all_steps(*asked.request, work) {
             return self.find_followed(asked.haystack, *asked.request, work);
         }
+        self.find_unfollowed(asked, work)
+    }
+
+    /// The same without the automaton.
+    fn find_unfollowed(&self, asked: &Asked<'_>, work: &mut Work) -> Result<Option<Found>>
+        requires easy { program_is_easy self.now ≡ true }
+        requires hopeful { is_hopeless self.now (query_in self.now asked.now) ≡ false }
+        requires room { HasRoomFor self.now asked.now.request.now work.old }
+        ensures served { ServesAlone self.now asked.now result work.old work.new }
+        ensures bounded { steps_of work.new
+            ≤ steps_of work.old + step_bound self.now asked.now.request.now }
+        ensures unlimited { AllowsAllSteps self.now asked.now.request.now work.old
+            → IsOutOfSteps result → ⊥ }
+    {
         if self.is_read(asked, &Kept::Nothing) && self.allows_all_steps(*asked.request, work) {
             return Ok(self.read(asked.haystack, asked.request, work));
         }
@@ -442,19 +456,12 @@ impl Program {
         ensures bounded { steps_of work.new ≤ steps_of work.old + step_bound self.now request }
         ensures refused { IfErr result (λ e. e ≡ Error.Memory) }
     {
-        let mut request = request;
         let mut kept = Kept::Nothing;
-        if let Some(patience) = self.first_patience(request) {
-            let before = work.steps();
-            let mut cache = runner::Cache::new(*self.text.allocator());
-            match self.begin(haystack, request, patience, &mut cache, work)? {
-                Begun::Ended(found) => {
-                    self.pool.spend(work.steps() - before);
-                    return Ok(found);
-                }
-                Begun::Left(rest) => request = rest,
-            }
-        }
+        let request = match self.begin_alone(haystack, request, work)? {
+            Some(Begun::Ended(found)) => return Ok(found),
+            Some(Begun::Left(rest)) => rest,
+            None => request,
+        };
         let first = request.effective_start();
         let mut steps = self.steps_for(kept, None, haystack.len(), first)?;
         let found = self.follow(haystack, request, &mut kept, &mut steps, work);
@@ -472,6 +479,61 @@ impl Program {
     {
         let mut cache = machine::Cache::new(*self.text.allocator());
         self.backtrack(asked, false, &mut cache, work)
+    }
+
+    /// Whether [`Program::find`] finds anything. It is refused as that is.
+    pub fn is_match(&self, asked: &Asked<'_>, work: &mut Work) -> Result<bool>
+        requires room { HasRoomFor self.now asked.now.request.now work.old }
+        ensures found { IfOk result (λ b. b ≡ is_some (search (query_in self.now asked.now))) }
+        ensures refused { IfErr result (RefusesQuery self.now (query_in self.now asked.now)) }
+        ensures allowed { IfOk result (λ _. AllowsQuery self.now (query_in self.now asked.now)) }
+        ensures bounded { program_is_easy self.now ≡ true
+            → steps_of work.new ≤ steps_of work.old + step_bound self.now asked.now.request.now }
+        ensures unlimited { program_is_easy self.now ≡ true
+            → AllowsAllSteps self.now asked.now.request.now work.old → IsOutOfSteps result → ⊥ }
+    {
+        let mut known = KnownBytes::new();
+        if self.is_hopeless(asked, &mut known) {
+            return Ok(false);
+        }
+        if !self.easy {
+            let found = self.find_hard(asked, work)?;
+            return Ok(found.is_some());
+        }
+        if self.allows_all_steps(*asked.request, work) && self.is_followed(asked, &Kept::Nothing) {
+            return self.is_match_followed(asked.haystack, *asked.request, work);
+        }
+        let found = self.find_unfollowed(asked, work)?;
+        Ok(found.is_some())
+    }
+
+    /// The same for an easy pattern where the automaton may serve: by the runner as long as its patience lasts, and then by the automaton.
+    #[inline(never)]
+    fn is_match_followed(&self, haystack: &[u8], request: Request, work: &mut Work) -> Result<bool>
+        requires followable { IsFollowable self.now haystack.now request }
+        requires unanchored { request.anchored ≡ false }
+        requires room { HasRoomFor self.now request work.old }
+        requires allowed { AllowsAllSteps self.now request work.old }
+        ensures answer { IfOk result (λ b. (on : Bool)
+            → b ≡ is_some (search (asked_of self.now haystack.now request on))) }
+        ensures bounded { steps_of work.new ≤ steps_of work.old + step_bound self.now request }
+        ensures refused { IfErr result (λ e. e ≡ Error.Memory) }
+    {
+        let request = match self.begin_alone(haystack, request, work)? {
+            Some(Begun::Ended(found)) => return Ok(found.is_some()),
+            Some(Begun::Left(rest)) => rest,
+            None => request,
+        };
+        let first = request.effective_start();
+        let mut steps = self.steps_for(Kept::Nothing, None, haystack.len(), first)?;
+        let options = self.options.for_search();
+        let cells = &mut steps.cells;
+        let Ok(found) = automaton::is_match(&self.code, haystack, request, options, cells, work)
+        else {
+            return Err(Error::Memory);
+        };
+        self.pool.leave(steps);
+        Ok(found)
     }
 
     /// A search of a list, as [`Program::search`] is a search alone: of one haystack up to one end, each from the end of the match
@@ -851,18 +913,52 @@ impl Program {
 
     /// The same from a first search on.
     fn first_patience(&self, request: Request) -> Option<Patience> {
+        let computed = self.code.len().saturating_mul(WORTH);
+        let steps = self.pool.worth(computed.clamp(LEAST_WORTH, MOST_WORTH))?;
         let first = request.effective_start();
         let places = request.range_end.saturating_sub(first);
         if places.saturating_mul(self.code.marks()) > TABLE {
             return None;
         }
-        let computed = self.code.len().saturating_mul(WORTH);
-        let steps = self.pool.worth(computed.clamp(LEAST_WORTH, MOST_WORTH))?;
         Some(Patience {
             steps,
             taken: 0,
             first,
         })
+    }
+
+    /// The first part of a search alone, by the runner as long as its patience lasts. `None` where it has none.
+    #[inline(always)]
+    fn begin_alone(
+        &self,
+        haystack: &[u8],
+        request: Request,
+        work: &mut Work,
+    ) -> Result<Option<Begun>>
+        requires inside { request.range_end ≤ length haystack.now }
+        requires unanchored { request.anchored ≡ false }
+        requires easy { program_is_easy self.now ≡ true }
+        requires room { HasRoomFor self.now request work.old }
+        requires allowed { AllowsAllSteps self.now request work.old }
+        ensures begun { IfOk result (λ b. IfSome b (λ begun. (groups : List (Option Span))
+            × IsBegun self.now haystack.now request groups work.old work.new begun)) }
+        ensures none { IfOk result (λ b. b ≡ None → work.new ≡ work.old) }
+        ensures counts { KeepsCounts self.now result work.old work.new }
+        ensures idle { (on : Bool) → NoneTried (program_options self.now).seek
+            (asked_of self.now haystack.now request on) → steps_of work.new ≡ steps_of work.old }
+        ensures bounded { steps_of work.new ≤ steps_of work.old + step_bound self.now request }
+        ensures refused { IfErr result (λ e. e ≡ Error.Memory) }
+    {
+        let Some(patience) = self.first_patience(request) else {
+            return Ok(None);
+        };
+        let before = work.steps();
+        let mut cache = runner::Cache::new(*self.text.allocator());
+        let begun = self.begin(haystack, request, patience, &mut cache, work)?;
+        if matches!(&begun, Begun::Ended(_)) {
+            self.pool.spend(work.steps() - before);
+        }
+        Ok(Some(begun))
     }
 
     /// The search for an easy pattern by the runner, as long as its patience lasts. What it leaves has the same answer, and its steps and

@@ -1,0 +1,29 @@
+use Rattle.std.proofs.Common.{◌≡◌, ◌∙◌, ap, refl}
+use Rattle.std.specs.Prelude.{is_some}
+use Rattle.fancy_meaning.specs.Search.{search}
+use Rattle.fancy_states.proofs.RememberedLemmas.{remembers, recalls}
+use Rattle.fancy_search.specs.Programs.{asked_of}
+use Rattle.fancy_search.specs.StepsOf.{AreStepsOf}
+use Rattle.fancy_search.proofs.LaterLemmas.{tells_some}
+use Rattle.fancy_search.proofs.program.Program.is_match_followed.Goals as goal
+use Rattle.fancy_search.proofs.program.Program.is_match_followed.Goals.{in-Some-Left, in-None}
+
+pub is_match-requires-clause-all : goal.is_match-requires-clause-all
+is_match-requires-clause-all c =
+    let kept : AreStepsOf c.args.self.now.code c.deref_mut.result.now = rw c.deref_mut.ensures.value c.in_ok-steps.ensures in
+    recalls c.deref_mut.result.now.cells c.args.self.now.code kept.true_of
+
+pub leave-requires : goal.leave-requires
+leave-requires c =
+    (c.args.self.now.pooled _).1 (record { true_of = remembers c.is_match.new.cells c.args.self.now.code c.is_match.ensures.all; within = c.is_match.ensures.kept })
+
+pub returns-clause-answer : goal.returns-clause-answer
+returns-clause-answer c on =
+    let r = c.args.self.now in
+    let same : search (asked_of r c.args.haystack.now c.match-branch-2.request on) ≡ search (asked_of r c.args.haystack.now c.args.request on) =
+    elim c.match-branch-2.branch [
+      | in-Some-Left w ↦ rw w.request-is (rw w.in-Some-Left.field-0-is ((rw w.in-Some-Left.field-0-is at (rw w.in-Some-Left.is at c.in_ok-found.ensures.begun).1).same on on))
+      | in-None w ↦ rw w.request-is refl
+    ] in
+    tells_some r c.args.haystack.now c.match-branch-2.request on c.in-Ok.found _ c.requires.followable.easy c.for_search-options.ensures (λ p is. c.in-Ok.ensures.answer p on is)
+    ∙ ap is_some same
