@@ -6,8 +6,9 @@ use fancy_code::code::{Code, Instr};
 use fancy_code::found::Found;
 use fancy_input::input::Request;
 use fancy_prefilter::branches::WIDE;
-use fancy_prefilter::candidates::next_opening;
+use fancy_prefilter::candidates::{next_candidate, next_opening};
 use fancy_prefilter::prefilter::{Anchor, Opening, Prefilter};
+use fancy_prefilter::reach::Target;
 use fancy_states::origin::begin_sometimes;
 use fancy_tree::char_set::CharSet;
 
@@ -135,9 +136,20 @@ const STEPS_A_BYTE: usize = 2;
 /// Searches by the runner that take more steps together tell whether the automaton may save some.
 pub const MOST_TRIED: usize = 8192;
 
-/// Whether it may pay that the automaton tells the runner where to begin: a scan tells little of where matches begin, and they begin not
-/// only where a text or a line does.
+/// Whether a row of sets is looked for that each match goes on to.
+fn has_row(prefilter: &Prefilter) -> bool {
+    match &prefilter.region {
+        None => false,
+        Some(reach) => matches!(reach.target, Target::Row(_)),
+    }
+}
+
+/// Whether it may pay that the automaton tells the runner where to begin: a scan tells little of where matches begin, they begin not only
+/// where a text or a line does, and no row of sets tells more.
 pub fn may_lead(prefilter: &Prefilter) -> bool {
+    if has_row(prefilter) {
+        return false;
+    }
     match prefilter.anchor {
         Anchor::AtStart | Anchor::AtLines(_) => false,
         Anchor::Anywhere | Anchor::AtWords(_) => is_told_little(prefilter),
@@ -170,24 +182,43 @@ pub fn saved_steps(
     taken.saturating_sub((place - first).saturating_mul(STEPS_A_BYTE))
 }
 
-/// So many bytes are looked at for the first required text.
+/// So many bytes are looked at for what each match goes on to.
 const AHEAD: usize = 4096;
 
-/// Whether the runner leaps: from `first` up to `end`, byte offsets, it looks at fewer bytes than it passes over, as far as the first text
-/// tells that each match must have. Where no opening is scanned for, the automaton goes on by first bytes alone.
+/// It is looked at that often at most.
+const TARGETS: usize = 4;
+
+/// Where the runner would pass over so many bytes for each place at which it stands, it leaps.
+const LEAP: usize = 64;
+
+/// Whether the runner leaps, from `first` up to `end`, byte offsets: as far as it is looked at what each match goes on to, that tells it to
+/// pass over many bytes where matches may begin by their first ones, and more than it would look at. Where no opening is scanned for, the
+/// automaton goes on by first bytes alone.
 #[inline(never)]
 pub fn leaps(prefilter: &Prefilter, haystack: &[u8], first: usize, end: usize) -> bool
     requires inside { end ≤ length haystack.now }
 {
-    if prefilter.region.is_none() || end < first {
+    if prefilter.region.is_none() || prefilter.only_at_start() || end < first {
         return false;
     }
     let seen = end.min(first.saturating_add(AHEAD));
-    let mut region = None;
-    let place = next_opening(prefilter, haystack, seen, first, seen, &mut region);
-    let passed = place - first;
-    match region {
-        None => passed > 0,
-        Some(text) => text.saturating_sub(place) < passed,
+    let mut place = first;
+    let mut passed = 0usize;
+    let mut least = 0usize;
+    for _ in 0..TARGETS {
+        let from = place.min(seen);
+        let mut region = None;
+        let next = next_opening(prefilter, haystack, seen, from, seen, &mut region);
+        let by_byte = next_candidate(prefilter, haystack, seen, from, seen);
+        passed = passed.saturating_add(next.saturating_sub(by_byte));
+        let Some(target) = region else {
+            break;
+        };
+        least = least.saturating_add(target.saturating_sub(next).max(LEAP));
+        if passed >= least.saturating_add(TARGETS * LEAP) {
+            break;
+        }
+        place = target.saturating_add(1);
     }
+    passed > least
 }

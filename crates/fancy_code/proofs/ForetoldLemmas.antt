@@ -128,7 +128,7 @@ pub item_at : (x : Context) (test : ℕ → Bool) (p q : ℕ) → past_item x te
 unfolding past_item unit_at
 item_at x test p q e = item_if x test p q (unit_in x.meaning x.haystack p) refl e
 
-encoding_some : (m : Meaning) (c : ℕ) → 0 < length (encoding m c)
+pub encoding_some : (m : Meaning) (c : ℕ) → 0 < length (encoding m c)
 encoding_some Unicode c = omega (arith, length-encode c, (len_utf8_bounds c).0)
 encoding_some Bytes c = omega arith
 encoding_some AsciiText c = omega (arith, length-encode c, (len_utf8_bounds c).0)

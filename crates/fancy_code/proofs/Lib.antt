@@ -24,7 +24,7 @@ pub mod ChoosingLemmas
 pub mod EndLemmas
 pub mod TextLemmas
 pub mod BranchingLemmas
-pub mod ToldLemmas
+pub mod TellsLemmas
 pub mod StayLemmas
 pub mod RegionLemmas
 pub mod EndsTextLemmas

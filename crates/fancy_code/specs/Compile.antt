@@ -17,7 +17,7 @@ use Rattle.fancy_meaning.specs.Easy.{is_easy}
 use Rattle.fancy_code.specs.Code.{instrs_of}
 use Rattle.fancy_code.specs.Branches.{AreBranches}
 use Rattle.fancy_prefilter.specs.Prefilters.{text_in, window_in, branches_in}
-use Rattle.fancy_required.specs.Regions.{IsReach}
+use Rattle.fancy_prefilter.specs.Regions.{IsReach}
 use Rattle.fancy_code.specs.Foretold.{AreForetold, StartsAt}
 use Rattle.fancy_code.specs.Run.{instr_at}
 

@@ -17,7 +17,8 @@ use crate::classify::is_easy;
 use crate::code::{Code, Entry, FAIL, Instr, MATCH};
 use crate::emitter::Emitter;
 use crate::prefilter::with_starts;
-use fancy_prefilter::prefilter::Prefilter;
+use fancy_prefilter::prefilter::{Anchor, Prefilter};
+use fancy_prefilter::reach::Reach;
 use fancy_tree::char_set::CharSet;
 use fancy_tree::measure::are_empty;
 use fancy_tree::set::Set;
@@ -558,6 +559,33 @@ fn compile_alone(
     Ok(code)
 }
 
+/// Whether it is worth to look for a row that each match goes on to: where matches start at starts of lines, texts are to have it seldom.
+fn is_worth_row(prefilter: &Prefilter, row: &Reach) -> bool {
+    row.is_rare || !matches!(prefilter.anchor, Anchor::AtLines(_))
+}
+
+/// The same code, with the row of sets that each match goes on to, where else little is told of where matches begin.
+fn with_row(alloc: Global, code: Code, tree: &Tree) -> Result<Code, AllocError>
+    ensures instrs { IfOk result (λ c. instrs_of c ≡ instrs_of code) }
+    ensures groups { IfOk result (λ c. c.groups ≡ code.groups) }
+    ensures meaning { IfOk result (λ c. c.meaning ≡ code.meaning) }
+    ensures is { IfOk result (λ c.
+        IsCodeOf (pattern_of tree.now) code → IsCodeOf (pattern_of tree.now) c) }
+{
+    if !code.prefilter.tells_little() {
+        return Ok(code);
+    }
+    let Some(row) = Reach::by_row(alloc, tree, code.meaning)? else {
+        return Ok(code);
+    };
+    if !is_worth_row(&code.prefilter, &row) {
+        return Ok(code);
+    }
+    let mut code = code;
+    code.prefilter.region = Some(row);
+    Ok(code)
+}
+
 /// The code of a pattern with so many groups, group 0 among them. It has at most 4 instructions for each node of
 /// the pattern with its counted repeats written out, and 2 more. A branch of a look-behind that has no size, as
 /// `a*`, matches nowhere. The call fails only where memory runs out.
@@ -587,5 +615,6 @@ pub fn compile(
     }
     let code = with_choices(alloc, code)?;
     let code = with_starts(alloc, code)?;
+    let code = with_row(alloc, code, tree)?;
     Ok(code)
 }

@@ -1,14 +1,17 @@
 -- Where a text that does not occur in a part of the haystack does not stand.
-use Rattle.std.proofs.Common.{◌≡◌, ℕ, ◌+◌, ◌-◌, ◌<◌, ◌≤◌, List, [], ◌∷◌, length, Option, Some, refl, sym, subst, arith, le_refl, le_trans}
-use Rattle.std.specs.Prelude.{slice_range}
+use Rattle.std.proofs.Common.{◌≡◌, ℕ, ◌+◌, ◌-◌, ◌<◌, ◌≤◌, List, [], ◌∷◌, length, Option, None, Some, refl, sym, subst, arith, le_refl, le_trans}
+use Rattle.std.specs.Prelude.{IfSome, MatchOption, slice_range}
+use Rattle.fancy_bytes.specs.Rows.{StandsFrom as RowStandsFrom}
 use Rattle.memchr.specs.Find.{OccursAt, Nowhere}
 use Rattle.fancy_bytes.specs.Openings.{StandsBefore}
-use Rattle.fancy_required.specs.Required.{StandsFrom}
-use Rattle.fancy_required.specs.Regions.{StandsAhead}
-use Rattle.fancy_required.specs.declared.reach.Reach.{Reach}
-use Rattle.fancy_required.specs.declared.reach.Target.{Target}
-use Rattle.fancy_required.specs.declared.reach.Target.TheVariants.{Text, TextEnd}
-use Rattle.fancy_prefilter.specs.Regions.{EndsRegion, LacksTarget, before, nowhere}
+use Rattle.fancy_required.specs.Told.{StandsFrom}
+use Rattle.fancy_prefilter.specs.Regions.{StandsAhead}
+use Rattle.fancy_prefilter.specs.declared.reach.Reach.{Reach}
+use Rattle.fancy_prefilter.specs.declared.reach.Target.{Target}
+use Rattle.fancy_prefilter.specs.declared.reach.Target.TheVariants.{Row, Text, TextEnd}
+use Rattle.fancy_bytes.specs.Sets.{ByteFlags}
+use Rattle.fancy_prefilter.specs.Windows.{NoneStandsIn}
+use Rattle.fancy_prefilter.specs.Regions.{RowStands, EndsRegion, LacksTarget, before, nowhere}
 use Rattle.fancy_prefilter.specs.NextOpening.{LacksReach, StartsNot, by_reach}
 use Rattle.fancy_prefilter.specs.declared.prefilter.Prefilter.{Prefilter}
 use Rattle.fancy_prefilter.proofs.StandsLemmas.{none_stands}
@@ -36,9 +39,22 @@ none_before haystack from end ordered inside text found edge after lower within 
       none_stands haystack from end ordered inside (b ∷ bs) found (from + found) refl (omega (arith, within)) none s.place s.low (omega (arith, stands.0, lower))
       (stands_wider haystack edge end (b ∷ bs) s.place (omega (arith, lower, within)) stands)
 
+-- a row that stands nowhere before the first place at which one is seen does not stand before an edge that comes before that
+pub no_row_before : (row : List ByteFlags) (haystack : List ℕ) (from found edge end : ℕ) → edge < found → found ≤ end → NoneStandsIn row haystack end from found → ¬ RowStands haystack from edge row
+no_row_before row haystack from found edge end lower within none s =
+    none s.place s.low (omega (arith, s.high, lower)) (λ j le lt. (omega (arith, (s.stands j le lt).0, lower, within), (s.stands j le lt).1))
+
+pub row_first : (t : Target) (row : List ByteFlags) (haystack : List ℕ) (from end : ℕ) (seen : Option ℕ) → t ≡ Row row
+    → MatchOption seen ((k : ℕ) → from ≤ k → ¬ RowStandsFrom row haystack end 0 k) (λ p. (from ≤ p) × (p < end) × RowStandsFrom row haystack end 0 p × NoneStandsIn row haystack end from p)
+    → IfSome seen (λ place. (edge : ℕ) → from ≤ edge → edge < place → ¬ StandsAhead t haystack from edge)
+row_first t row haystack from end None is h = tt
+row_first t row haystack from end (Some found) is h =
+    λ edge le lt. subst (λ (u : Target). ¬ StandsAhead u haystack from edge) (sym is) (no_row_before row haystack from found edge end lt (omega (arith, h.1)) h.3)
+
 -- where the target stands nowhere from a place on, it stands nowhere from a later one on
 pub none_later : (t : Target) (haystack : List ℕ) (from k end : ℕ) → from ≤ k → ¬ StandsAhead t haystack from end → ¬ StandsAhead t haystack k end
 none_later (Text text) haystack from k end le none s = none (record { place = s.place; low = le_trans le s.low; stands = s.stands })
+none_later (Row row) haystack from k end le none s = none (record { place = s.place; low = le_trans le s.low; high = s.high; stands = s.stands })
 none_later TextEnd haystack from k end le none s = none s
 
 -- so it is of an edge

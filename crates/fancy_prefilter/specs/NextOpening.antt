@@ -4,7 +4,7 @@ use Rattle.fancy_bytes.specs.Sets.{ByteFlags, member}
 use Rattle.fancy_bytes.specs.Openings.{StandsBefore}
 use Rattle.fancy_prefilter.specs.Regions.{LacksTarget}
 use Rattle.fancy_bytes.specs.Rows.{StandsFrom}
-use Rattle.fancy_required.specs.declared.reach.Reach.{Reach}
+use Rattle.fancy_prefilter.specs.declared.reach.Reach.{Reach}
 use Rattle.fancy_prefilter.specs.KeyTables.{NoneMayStand}
 use Rattle.fancy_prefilter.specs.Seen.{MayNotStart, NoneMayStart}
 use Rattle.fancy_prefilter.specs.declared.prefilter.Anchor.{Anchor}

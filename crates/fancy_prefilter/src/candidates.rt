@@ -8,10 +8,10 @@ ghost use Rattle.fancy_prefilter.specs.Seen.{IsNextCandidate, MayNotStart, MaySt
 use crate::branches::Branches;
 use crate::literal::Literal;
 use crate::prefilter::{Anchor, Opening, Prefilter};
+use crate::reach::Reach;
 use crate::region::{is_worth_looking, next_region};
 use crate::scan::Scan;
 use crate::window::Window;
-use fancy_required::reach::Reach;
 
 /// At so many places of a line it is looked at what each match opens with.
 const PLACES: usize = 8;
@@ -386,7 +386,7 @@ fn next_in_region(
     let Some(reach) = &prefilter.region else {
         return next_by_opening(prefilter, haystack, range_end, from, last);
     };
-    if last < range_end || !is_worth_looking(reach, range_end.saturating_sub(from)) {
+    if last < range_end || !is_worth_looking(reach, from, range_end) {
         return next_by_opening(prefilter, haystack, range_end, from, last);
     }
     if let Some(target) = *region {

@@ -5,15 +5,15 @@ ghost use Rattle.fancy_tree.specs.Pattern.{pattern_of};
 ghost use Rattle.fancy_bytes.specs.Firsts.{AreStartBytes};
 ghost use Rattle.fancy_bytes.specs.Openings.{opening};
 ghost use Rattle.fancy_prefilter.specs.Prefilters.{branches_in, text_in, window_in};
-ghost use Rattle.fancy_required.specs.Regions.{IsReach};
+ghost use Rattle.fancy_prefilter.specs.Regions.{IsReach};
 
 use crate::branches::Branches;
 use crate::literal::{Literal, opening_literal};
+use crate::reach::Reach;
 use crate::scan::{Scan, start_scan};
 use crate::window::Window;
 use fancy_bytes::byte_set::ByteSet;
 use fancy_bytes::rows;
-use fancy_required::reach::Reach;
 use fancy_tree::tree::{Meaning, Tree};
 use std::alloc::{AllocError, Global};
 
@@ -135,16 +135,7 @@ impl Prefilter {
     /// Whether a search would scan for a window: not where each match opens with one text, or may start with any byte, or starts with
     /// one that texts seldom have.
     pub fn is_worth_window(&self) -> bool {
-        if self.has_text() {
-            return false;
-        }
-        let Some(scan) = &self.starts else {
-            return false;
-        };
-        match scan.only() {
-            None => true,
-            Some(byte) => stands_often(byte),
-        }
+        !self.has_text() && self.starts.is_some() && !self.starts_seldom()
     }
 
     /// Whether each match starts at the text's start.
@@ -166,6 +157,26 @@ impl Prefilter {
     #[inline(always)]
     pub fn scans_for_opening(&self) -> bool {
         matches!(self.opening, Opening::Text(_) | Opening::Window(_))
+    }
+
+    /// Whether it tells little of where matches begin: nothing that they go on to, and nothing that they open with is scanned for, and they
+    /// start not with one byte that texts have seldom, or at the text's start alone.
+    pub fn tells_little(&self) -> bool {
+        if self.scans_for_opening() || self.has_words() || self.only_at_start() {
+            return false;
+        }
+        self.region.is_none() && !self.starts_seldom()
+    }
+
+    /// Whether each match starts with one byte that texts have seldom.
+    fn starts_seldom(&self) -> bool {
+        let Some(scan) = &self.starts else {
+            return false;
+        };
+        match scan.only() {
+            None => false,
+            Some(byte) => !stands_often(byte),
+        }
     }
 
     /// Whether each match opens with one of many alternatives that are told.

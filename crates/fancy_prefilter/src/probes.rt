@@ -5,20 +5,16 @@ ghost use Rattle.fancy_prefilter.specs.HalfTables.{AreMarks};
 ghost use Rattle.fancy_prefilter.specs.Probes.{IsProbeOf, AreProbesOf, LetsBegin, LetBegin};
 
 use crate::half_tables::HalfTables;
+use crate::letters::frequent_letters;
 use fancy_bytes::byte_set::ByteSet;
-
-/// The ASCII bytes of which English text has most.
-const FREQUENT: &[u8] = b" etaoinsrhl";
 
 /// From this one on bytes begin characters of UTF-8, and texts of one script have few of them many times.
 const LEAD: u32 = 0xC0;
 
 /// The bytes that are frequent.
 fn frequent_bytes() -> ByteSet {
-    let mut bytes = ByteSet::new();
-    for &byte in FREQUENT {
-        bytes.insert(byte);
-    }
+    let mut bytes = frequent_letters();
+    bytes.insert(b' ');
     for byte in LEAD..256u32 {
         bytes.insert(byte as u8);
     }

@@ -1,18 +1,22 @@
-//! The part of a haystack in which a match may be that goes on to a text, or to the end of the text.
+//! The part of a haystack in which a match may be that goes on to a text, a row of sets or the end of the text.
 
 ghost use Rattle.std.specs.Prelude.{◌≡◌, ◌≤◌, ◌<◌, ◌+◌, ◌-◌, ℕ, None, length, IfSome};
-ghost use Rattle.fancy_required.specs.Regions.{StandsAhead};
-ghost use Rattle.fancy_prefilter.specs.Regions.{EndsRegion};
+ghost use Rattle.fancy_prefilter.specs.Regions.{EndsRegion, StandsAhead};
 
-use fancy_required::reach::{Reach, Target};
+use crate::reach::{Reach, Target};
 use memchr::memmem;
 
 /// It goes back over so many bytes at most. Where a match may have all of them, it may begin anywhere.
 const FAR: usize = 256;
 
-/// Whether it is worth to look for a target where so many bytes are left: for the end of the text, where they are many.
-pub(crate) fn is_worth_looking(reach: &Reach, bytes: usize) -> bool {
-    bytes > FAR || matches!(reach.target, Target::Text(_))
+/// Whether it is worth to look for a target from a place on: for a row that texts do not have seldom where the text is long, and for the end
+/// of the text where much is left of it.
+pub(crate) fn is_worth_looking(reach: &Reach, from: usize, end: usize) -> bool {
+    match reach.target {
+        Target::Text(_) => true,
+        Target::Row(_) => reach.is_rare || end > FAR,
+        Target::TextEnd => end.saturating_sub(from) > FAR,
+    }
 }
 
 /// The first place, from one on and up to the end, at which the target stands.
@@ -30,6 +34,7 @@ fn next_target(target: &Target, haystack: &[u8], from: usize, end: usize) -> Opt
             let found = memmem::find(&haystack[from..end], text)?;
             Some(from + found)
         }
+        Target::Row(row) => row.next_seen(haystack, from, end),
         Target::TextEnd => {
             if end < haystack.len() {
                 return None;

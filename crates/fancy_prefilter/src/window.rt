@@ -10,6 +10,7 @@ ghost use Rattle.fancy_prefilter.specs.Windows.{NoneStandsIn, IsSkip, AreSkips};
 ghost use Rattle.fancy_prefilter.specs.HalfTables.{AreMarks};
 ghost use Rattle.fancy_prefilter.specs.Probes.{AreProbesOf};
 
+use crate::letters::frequent_letters;
 use crate::marks::{lowest, without};
 use crate::probes::Probes;
 use fancy_bytes::byte_set::ByteSet;
@@ -19,9 +20,10 @@ use std::marker::Model;
 /// From so many marked windows of 32 on they are gone through by skips, and not one after another by the sets.
 const MANY_MARKS: u32 = 6;
 
-/// Whether a set has most of the letters that are frequent.
+/// Whether a set has all letters that are frequent.
 fn has_common(set: &ByteSet) -> bool {
-    b"etaoinsrhl".iter().all(|letter| set.contains(*letter))
+    let frequent = frequent_letters();
+    frequent.intersection(set).len() == frequent.len()
 }
 
 /// By how many places a window may be moved on where this byte stands last in it.

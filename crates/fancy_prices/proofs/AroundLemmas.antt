@@ -9,7 +9,7 @@ use Rattle.fancy_prefilter.specs.declared.prefilter.Opening.TheVariants.{Untold,
 use Rattle.fancy_prefilter.specs.declared.prefilter.Prefilter.{Prefilter}
 use Rattle.fancy_prefilter.specs.Prefilters.{window_in}
 use Rattle.fancy_prefilter.specs.NextOpening.{LacksReach, IsOffAnchor, LacksOpening, StartsNot, by_byte, by_anchor, by_opening, by_reach}
-use Rattle.fancy_required.specs.declared.reach.Reach.{Reach}
+use Rattle.fancy_prefilter.specs.declared.reach.Reach.{Reach}
 use Rattle.fancy_prefilter.specs.Seen.{MayNotStart}
 use Rattle.fancy_bytes.specs.Rows.{set_at, StandsFrom}
 use Rattle.fancy_prices.specs.declared.entries.Told.{Told}

@@ -1,2 +1,2 @@
 pub mod EndsLemmas
-pub mod RunLemmas
+pub mod ToldLemmas

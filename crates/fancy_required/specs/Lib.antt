@@ -1,4 +1,2 @@
-pub mod Required
-pub mod Runs
-pub mod Regions
+pub mod Told
 pub mod Ends

@@ -1,5 +1,6 @@
 //! What every match goes on to.
 #![tactic(auto)]
 
-pub mod reach;
-pub mod text;
+pub mod ends;
+pub mod seldom;
+pub mod told;

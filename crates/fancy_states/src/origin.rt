@@ -4,6 +4,7 @@ ghost use Rattle.std.specs.Prelude.{◌≡◌, ◌<◌, IfSome, nat_eq, nat_lt, 
 ghost use Rattle.std.specs.List.{list_all};
 ghost use Rattle.fancy_states.specs.Origins.{ComeFrom};
 
+use fancy_prefilter::letters::SHARES;
 use fancy_prefilter::prefilter::{Anchor, Prefilter};
 
 /// Of which ways of its row those come that a step leads to, and the match that it finds.
@@ -30,36 +31,6 @@ fn are_all(numbers: &[usize], one: usize) -> bool
 {
     numbers.iter().all(|number| *number == one)
 }
-
-/// How many of a thousand letters of English text are each of these.
-const SHARES: [(u8, usize); 26] = [
-    (b'e', 127),
-    (b't', 91),
-    (b'a', 82),
-    (b'o', 75),
-    (b'i', 70),
-    (b'n', 67),
-    (b's', 63),
-    (b'h', 61),
-    (b'r', 60),
-    (b'd', 43),
-    (b'l', 40),
-    (b'c', 28),
-    (b'u', 28),
-    (b'm', 24),
-    (b'w', 24),
-    (b'f', 22),
-    (b'g', 20),
-    (b'y', 20),
-    (b'p', 19),
-    (b'b', 15),
-    (b'v', 10),
-    (b'k', 7),
-    (b'j', 1),
-    (b'q', 1),
-    (b'x', 1),
-    (b'z', 1),
-];
 
 /// So many of the first places of a match are looked at, where they are scanned for.
 const PLACES: usize = 4;
