@@ -124,9 +124,15 @@ def row(crate, words):
 
 def library():
     """The crates that the public one stands on, and itself, in the order of crates.txt."""
-    rows = [line.partition(":") for line in (CRATES.parent / "crates.txt").read_text().splitlines()]
-    public = next(below for name, _, below in rows if name == "fancy_regex").split()
-    return [name for name, _, _ in rows if name in public or name == "fancy_regex"]
+    lines = (line.partition("#")[0].partition(":") for line in (CRATES.parent / "crates.txt").read_text().splitlines())
+    below = {name.split()[0]: libraries.split() for name, colon, libraries in lines if colon}
+    found, left = set(), ["fancy_regex"]
+    while left:
+        name = left.pop()
+        if name in below and name not in found:
+            found.add(name)
+            left += below[name]
+    return [name for name in below if name in found]
 
 
 def main():
