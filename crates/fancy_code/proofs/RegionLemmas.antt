@@ -30,9 +30,9 @@ stands_by (Text text) q bytes p end is to ends h =
     (λ t both. text_stands q.haystack is.before is.after text.items p t.place end both.1.to both.0)
     (EachOutcome_both _ (IsBetween p end) (trace_at q p) (trace_tells (context_of q) q.request.range_end bytes is.tells (initial q p) to) ends))
 stands_by (Row row) q bytes p end is to ends h =
-    accepted_holds q p (λ t. RowStands q.haystack p end row) h
-    (EachOutcome_imp _ (λ t. RowStands q.haystack p end row) (trace_at q p)
-    (λ t both. row_stands q.haystack is.1.before is.1.after row p t.place end is.0 both.1.to both.0)
+    accepted_holds q p (λ t. RowStands q.haystack p end row.window) h
+    (EachOutcome_imp _ (λ t. RowStands q.haystack p end row.window) (trace_at q p)
+    (λ t both. row_stands q.haystack is.1.before is.1.after row.window p t.place end is.0 both.1.to both.0)
     (EachOutcome_both _ (IsBetween p end) (trace_at q p) (trace_tells (context_of q) q.request.range_end bytes is.1.tells (initial q p) to) ends))
 stands_by TextEnd q bytes p end is to ends h =
     accepted_holds q p (λ t. length q.haystack ≤ end) h

@@ -561,7 +561,7 @@ fn compile_alone(
 
 /// Whether it is worth to look for a row that each match goes on to: where matches start at starts of lines, texts are to have it seldom.
 fn is_worth_row(prefilter: &Prefilter, row: &Reach) -> bool {
-    row.is_rare || !matches!(prefilter.anchor, Anchor::AtLines(_))
+    row.is_rare() || !matches!(prefilter.anchor, Anchor::AtLines(_))
 }
 
 /// The same code, with the row of sets that each match goes on to, where else little is told of where matches begin.

@@ -7,6 +7,7 @@ use Rattle.fancy_bytes.specs.Openings.{StandsBefore}
 use Rattle.fancy_required.specs.Told.{StandsFrom}
 use Rattle.fancy_prefilter.specs.Regions.{StandsAhead}
 use Rattle.fancy_prefilter.specs.declared.reach.Reach.{Reach}
+use Rattle.fancy_prefilter.specs.declared.reach.Row.{Row as RowOfSets}
 use Rattle.fancy_prefilter.specs.declared.reach.Target.{Target}
 use Rattle.fancy_prefilter.specs.declared.reach.Target.TheVariants.{Row, Text, TextEnd}
 use Rattle.fancy_bytes.specs.Sets.{ByteFlags}
@@ -44,12 +45,12 @@ pub no_row_before : (row : List ByteFlags) (haystack : List ℕ) (from found edg
 no_row_before row haystack from found edge end lower within none s =
     none s.place s.low (omega (arith, s.high, lower)) (λ j le lt. (omega (arith, (s.stands j le lt).0, lower, within), (s.stands j le lt).1))
 
-pub row_first : (t : Target) (row : List ByteFlags) (haystack : List ℕ) (from end : ℕ) (seen : Option ℕ) → t ≡ Row row
-    → MatchOption seen ((k : ℕ) → from ≤ k → ¬ RowStandsFrom row haystack end 0 k) (λ p. (from ≤ p) × (p < end) × RowStandsFrom row haystack end 0 p × NoneStandsIn row haystack end from p)
+pub row_first : (t : Target) (row : RowOfSets) (haystack : List ℕ) (from end : ℕ) (seen : Option ℕ) → t ≡ Row row
+    → MatchOption seen ((k : ℕ) → from ≤ k → ¬ RowStandsFrom row.window haystack end 0 k) (λ p. (from ≤ p) × (p < end) × RowStandsFrom row.window haystack end 0 p × NoneStandsIn row.window haystack end from p)
     → IfSome seen (λ place. (edge : ℕ) → from ≤ edge → edge < place → ¬ StandsAhead t haystack from edge)
 row_first t row haystack from end None is h = tt
 row_first t row haystack from end (Some found) is h =
-    λ edge le lt. subst (λ (u : Target). ¬ StandsAhead u haystack from edge) (sym is) (no_row_before row haystack from found edge end lt (omega (arith, h.1)) h.3)
+    λ edge le lt. subst (λ (u : Target). ¬ StandsAhead u haystack from edge) (sym is) (no_row_before row.window haystack from found edge end lt (omega (arith, h.1)) h.3)
 
 -- where the target stands nowhere from a place on, it stands nowhere from a later one on
 pub none_later : (t : Target) (haystack : List ℕ) (from k end : ℕ) → from ≤ k → ¬ StandsAhead t haystack from end → ¬ StandsAhead t haystack k end

@@ -8,13 +8,18 @@ use Rattle.fancy_bytes.specs.Sets.{ByteFlags, member}
 use Rattle.fancy_required.specs.Ends.{ends_text}
 use Rattle.fancy_required.specs.Told.{HasRow, HasText, StandsFrom}
 use Rattle.fancy_prefilter.specs.declared.reach.Reach.{Reach}
+use Rattle.fancy_prefilter.specs.declared.reach.Row.{Row as RowOfSets}
 use Rattle.fancy_prefilter.specs.declared.reach.Target.{Target}
 use Rattle.fancy_prefilter.specs.declared.reach.Target.TheVariants.{Row, Text, TextEnd}
+
+-- the row is of a set or more, and whatever the pattern matches has it in it
+abbrev pub IsRow : Meaning → Pattern → RowOfSets → Type 0
+IsRow m p row = (0 < length row.window) × HasRow m p row.window
 
 -- whatever the pattern matches, it has the text or the row in it, or ends at the end of the text
 abbrev pub IsTarget : Meaning → Pattern → Target → Type 0
 IsTarget m p (Text text) = HasText m p text.items
-IsTarget m p (Row row) = (0 < length row) × HasRow m p row
+IsTarget m p (Row row) = IsRow m p row
 IsTarget m p TextEnd = ends_text p ≡ true
 
 -- what the pattern goes on to is that, and items of it begin with no byte but these
@@ -32,7 +37,7 @@ pub record RowStands (haystack : List ℕ) (from end : ℕ) (row : List ByteFlag
 -- the target stands from some place on before the end, or at it
 abbrev pub StandsAhead : Target → List ℕ → ℕ → ℕ → Type 0
 StandsAhead (Text text) haystack from end = StandsFrom haystack from end text.items
-StandsAhead (Row row) haystack from end = RowStands haystack from end row
+StandsAhead (Row row) haystack from end = RowStands haystack from end row.window
 StandsAhead TextEnd haystack from end = length haystack ≤ end
 
 -- at the edge stands an ASCII character that no match has, and the target does not stand from a place on before it

@@ -5,7 +5,6 @@ ghost use Rattle.fancy_tree.specs.Pattern.{pattern_of};
 ghost use Rattle.fancy_bytes.specs.Reads.{item_starts};
 ghost use Rattle.fancy_bytes.specs.Sets.{member};
 ghost use Rattle.fancy_prefilter.specs.Regions.{IsTarget};
-ghost use Rattle.fancy_prefilter.specs.declared.reach.Target.TheVariants.{Row};
 
 use crate::letters::share;
 use crate::window::Window;
@@ -27,13 +26,22 @@ const OFTEN: usize = 5_000;
 /// A row that stands at fewer is looked for in short texts too.
 const RARE: usize = 500;
 
+/// A row of sets, of which a byte of each stands in every match, one after another.
+#[derive(Drop)]
+pub struct Row {
+    /// The sets, made ready for scans.
+    pub window: Window,
+    /// Whether texts have it so seldom that it is worth to look for it in short ones too.
+    pub is_rare: bool,
+}
+
 /// What every match goes on to.
 #[derive(Drop)]
 pub enum Target {
     /// This text, of a byte or more, which it has in it.
     Text(Vec<u8>),
-    /// A byte of each of these sets, one after another, which it has in it.
-    Row(Window),
+    /// A byte of each set of this row, one after another, which it has in it.
+    Row(Row),
     /// The end of the text.
     TextEnd,
 }
@@ -43,8 +51,6 @@ pub enum Target {
 pub struct Reach {
     /// What it goes on to.
     pub target: Target,
-    /// Whether texts have it so seldom that it is worth to look for it in short ones too.
-    pub is_rare: bool,
     /// The bytes with which items of the pattern begin.
     reads: ByteSet,
 }
@@ -81,26 +87,25 @@ fn rarest_row(told: &[Told]) -> Option<(usize, usize)> {
     rarest
 }
 
-/// The rarest row that a pattern tells, made ready for scans, and whether texts have it seldom enough that it is worth to look for it in short
-/// ones too. None where no row is seldom.
-fn row_window(
-    alloc: Global,
-    tree: &Tree,
-    meaning: Meaning,
-) -> Result<Option<(Window, bool)>, AllocError>
-    ensures { IfOk result (λ o. IfSome o (λ row. IsTarget meaning (pattern_of tree.now) (Row row.0))) }
-{
-    let told = told_of(alloc, tree, meaning, Detail::Sets)?;
-    let Some((from, shared)) = rarest_row(&told) else {
-        return Ok(None);
-    };
-    let row = row_at(alloc, &told, from, LONGEST)?;
-    if row.is_empty() {
-        return Ok(None);
-    }
-    match Window::new(alloc, row)? {
-        None => Ok(None),
-        Some(window) => Ok(Some((window, shared < RARE))),
+impl Row {
+    ghost use Rattle.fancy_prefilter.specs.Regions.{IsRow};
+
+    /// The rarest row that the pattern tells. None where no row is seldom. It is refused where memory runs out.
+    fn rarest(alloc: Global, tree: &Tree, meaning: Meaning) -> Result<Option<Row>, AllocError>
+        ensures { IfOk result (λ o. IfSome o (IsRow meaning (pattern_of tree.now))) }
+    {
+        let told = told_of(alloc, tree, meaning, Detail::Sets)?;
+        let Some((from, shared)) = rarest_row(&told) else {
+            return Ok(None);
+        };
+        let sets = row_at(alloc, &told, from, LONGEST)?;
+        match Window::new(alloc, sets)? {
+            None => Ok(None),
+            Some(window) => Ok(Some(Row {
+                window,
+                is_rare: shared < RARE,
+            })),
+        }
     }
 }
 
@@ -147,26 +152,29 @@ impl Reach {
             return Ok(None);
         };
         let reads = reads_of(tree, meaning);
-        Ok(Some(Reach {
-            target,
-            is_rare: true,
-            reads,
-        }))
+        Ok(Some(Reach { target, reads }))
     }
 
     /// The same by the rarest row of sets that the pattern tells.
     pub fn by_row(alloc: Global, tree: &Tree, meaning: Meaning) -> Result<Option<Reach>, AllocError>
         ensures { IfOk result (λ o. IfSome o (IsReach meaning (pattern_of tree.now))) }
     {
-        let Some((row, is_rare)) = row_window(alloc, tree, meaning)? else {
+        let Some(row) = Row::rarest(alloc, tree, meaning)? else {
             return Ok(None);
         };
         let reads = reads_of(tree, meaning);
         Ok(Some(Reach {
             target: Target::Row(row),
-            is_rare,
             reads,
         }))
+    }
+
+    /// Whether texts have what it goes on to so seldom that it is worth to look for it in short ones too.
+    pub fn is_rare(&self) -> bool {
+        match &self.target {
+            Target::Row(row) => row.is_rare,
+            Target::Text(_) | Target::TextEnd => true,
+        }
     }
 
     /// Whether a match may have the byte in it. One that is not ASCII may be within a character.

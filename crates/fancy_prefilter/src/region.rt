@@ -12,9 +12,9 @@ const FAR: usize = 256;
 /// Whether it is worth to look for a target from a place on: for a row that texts do not have seldom where the text is long, and for the end
 /// of the text where much is left of it.
 pub(crate) fn is_worth_looking(reach: &Reach, from: usize, end: usize) -> bool {
-    match reach.target {
+    match &reach.target {
         Target::Text(_) => true,
-        Target::Row(_) => reach.is_rare || end > FAR,
+        Target::Row(row) => row.is_rare || end > FAR,
         Target::TextEnd => end.saturating_sub(from) > FAR,
     }
 }
@@ -34,7 +34,7 @@ fn next_target(target: &Target, haystack: &[u8], from: usize, end: usize) -> Opt
             let found = memmem::find(&haystack[from..end], text)?;
             Some(from + found)
         }
-        Target::Row(row) => row.next_seen(haystack, from, end),
+        Target::Row(row) => row.window.next_seen(haystack, from, end),
         Target::TextEnd => {
             if end < haystack.len() {
                 return None;
