@@ -206,6 +206,7 @@ impl Window {
     }
 
     /// The first place, from the one on, at which a window begins in which a byte of each set stands, before the end.
+    #[inline(always)]
     pub fn next_seen(&self, haystack: &[u8], from: usize, end: usize) -> Option<usize>
         requires within { end ≤ length haystack.now }
         ensures { MatchOption result ((k : ℕ) → from ≤ k → ¬ StandsFrom self.now haystack.now end 0 k)
