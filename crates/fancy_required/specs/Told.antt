@@ -95,7 +95,7 @@ pub data TellsRow (m : Meaning) : List Pattern → List Told → Type 0 where
   no_part : TellsRow m [] []
   one_part : {p : Pattern} {ps : List Pattern} {told more : List Told} → Tells m p told → TellsRow m ps more → TellsRow m (p ∷ ps) (told ++ more)
 
--- one of them
+-- each of them
 pub data TellsEach (m : Meaning) : List Pattern → List Told → Type 0 where
   no_branch : {told : List Told} → TellsEach m [] told
   one_branch : {p : Pattern} {ps : List Pattern} {told : List Told} → Tells m p told → TellsEach m ps told → TellsEach m (p ∷ ps) told

@@ -1,11 +1,11 @@
 //! What a pattern tells of the bytes that it consumes, whatever it matches.
 
-ghost use Rattle.std.specs.Prelude.{map, IfOk, IfSome};
+ghost use Rattle.std.specs.Prelude.{◌≡◌, map, IfOk, IfSome, IsTrue};
 ghost use Rattle.fancy_tree.specs.Members.{edges_of};
 ghost use Rattle.fancy_tree.specs.Pattern.{Pattern, pattern_of, character, in_choice, in_sequence};
 ghost use Rattle.fancy_tree.specs.Sets.{has};
 ghost use Rattle.fancy_tree.specs.declared.tree.Meaning.{Meaning as MeaningOf};
-ghost use Rattle.fancy_required.specs.Told.{Adds, AddsSome, HasRow, HasText, ReadsItem, Tells, TellsBoth, TellsText};
+ghost use Rattle.fancy_required.specs.Told.{gap, Adds, AddsSome, HasRow, HasText, ReadsItem, Tells, TellsBoth, TellsText};
 
 use fancy_bytes::byte_set::ByteSet;
 use fancy_bytes::items::is_ascii;
@@ -170,7 +170,14 @@ fn tell_row(
     Ok(())
 }
 
-/// The same of alternatives: what all of them tell.
+/// Whether a gap is all that is told.
+fn tells_nothing(told: &[Told]) -> bool
+    ensures { IsTrue result → told.now ≡ gap }
+{
+    matches!(told, [Told::Gap])
+}
+
+/// The same of alternatives: what all of them tell. Once that is nothing, the other ones are not asked.
 #[cycle(telling)]
 fn tell_branches(
     trees: &[Tree],
@@ -181,18 +188,17 @@ fn tell_branches(
     ensures { IfOk result (λ _. Adds meaning (in_choice (map pattern_of trees.now))
         told.old.items told.new.items) }
 {
+    if matches!(detail, Detail::Bytes) || trees.is_empty() {
+        told.push(Told::Gap)?;
+        return Ok(());
+    }
     let alloc = *told.allocator();
-    if let Detail::Bytes = detail {
-        told.push(Told::Gap)?;
-        return Ok(());
-    }
-    if trees.is_empty() {
-        told.push(Told::Gap)?;
-        return Ok(());
-    }
     let mut common = Vec::new(alloc);
     tell(&trees[0], meaning, detail, &mut common)?;
     for i in 1..trees.len() {
+        if tells_nothing(&common) {
+            break;
+        }
         let mut other = Vec::new(alloc);
         tell(&trees[i], meaning, detail, &mut other)?;
         let mut both = Vec::new(alloc);

@@ -1,4 +1,4 @@
-use Rattle.std.proofs.Common.{Global, Vec, ◌≡◌, ◌∙◌, ◌+◌, ◌++◌, length, map, drop, ap, sym, subst, arith}
+use Rattle.std.proofs.Common.{Global, List, Vec, ◌≡◌, ◌∙◌, ◌+◌, ◌++◌, length, map, drop, ap, sym, subst, arith}
 use Rattle.std.proofs.lemmas.Bool.{eqb-false}
 use Rattle.fancy_tree.specs.Members.{edges_of}
 use Rattle.fancy_tree.specs.Sets.{has}
@@ -9,7 +9,7 @@ use Rattle.fancy_required.specs.Told.{AddsSome, gap, Tells, TellsBoth, TellsLess
 use Rattle.fancy_required.specs.declared.told.Told.{Told}
 use Rattle.fancy_required.proofs.ToldLemmas.{all_told, branch_on, first_branch, kind_from, kind_of_new, on, part_on, row_end, tells_all, tells_byte, tells_group, tells_nothing, tells_place, tells_sequence, tells_turns, told_any}
 use Rattle.fancy_required.proofs.told.+telling.Goals as goal
-use Rattle.fancy_required.proofs.told.+telling.Goals.{tell-then-low-ge1+in_ok-tell-in-Repeat, tell-else-low-ge1}
+use Rattle.fancy_required.proofs.told.+telling.Goals.{tell_branches-else-loop-i-test, tell_branches-then-loop-i-test+then-tells_nothing, tell-then-low-ge1+in_ok-tell-in-Repeat, tell-else-low-ge1}
 
 pub tell-tell_member-requires : goal.tell-tell_member-requires
 tell-tell_member-requires t c = subst (λ (p : Pattern). ReadsItem p (has (edges_of c.in-Member.set))) (sym (ap pattern_of c.in-Member.is ∙ pattern-Member c.in-Member.set)) (reads_member (edges_of c.in-Member.set))
@@ -54,9 +54,9 @@ pub tell-returns-in_ok-push-in-Backreference : goal.tell-returns-in_ok-push-in-B
 tell-returns-in_ok-push-in-Backreference t c =
     told_any c.args.meaning (pattern_of c.args.tree.now) c.args.told.now.items c.push-in-Backreference.new.self.items c.in_ok-push-in-Backreference.ensures.items
 
-pub tell_branches-returns-then-is_empty : goal.tell_branches-returns-then-is_empty
-tell_branches-returns-then-is_empty t c =
-    told_any c.args.meaning (in_choice (map pattern_of c.args.trees.now)) c.args.told.now.items c.push-then-is_empty.new.self.items c.in_ok-push-2.ensures.items
+pub tell_branches-returns-then-matches : goal.tell_branches-returns-then-matches
+tell_branches-returns-then-matches t c =
+    told_any c.args.meaning (in_choice (map pattern_of c.args.trees.now)) c.args.told.now.items c.push.new.self.items c.in_ok-push.ensures.items
 
 pub tell_branches-loop-i-init : goal.tell_branches-loop-i-init
 tell_branches-loop-i-init t c =
@@ -69,15 +69,21 @@ pub tell_branches-loop-i-preserved : goal.tell_branches-loop-i-preserved
 tell_branches-loop-i-preserved t c =
     let trees = Tells c.args.meaning (pattern_of c.index-trees-i.result) in
     let other = kind_of_new trees c.new-other.result.items c.tell-in-loop-i.new.told.items c.new-other.ensures.items c.in_ok-tell-2.ensures in
-    let both = kind_of_new (TellsBoth c.deref.result.now c.deref-in-loop-i.result.now) c.new-both.result.items c.tell_common.new.told.items c.new-both.ensures.items c.in_ok-tell_common.ensures in
+    let both = kind_of_new (TellsBoth c.deref-in-loop-i.result.now c.deref-in-loop-i-2.result.now) c.new-both.result.items c.tell_common.new.told.items c.new-both.ensures.items c.in_ok-tell_common.ensures in
     branch_on c.args.meaning c.args.trees.now c.loop-i.i c.index-trees-i.result c.loop-i.common.items c.tell-in-loop-i.new.told.items c.tell_common.new.told.items (omega arith) c.index-trees-i.is
     other
-    (subst (TellsLess c.tell_common.new.told.items) c.deref.ensures.value both.one) (subst (TellsLess c.tell_common.new.told.items) c.deref-in-loop-i.ensures.value both.other) c.loop-i.invariant
+    (subst (TellsLess c.tell_common.new.told.items) c.deref-in-loop-i.ensures.value both.one) (subst (TellsLess c.tell_common.new.told.items) c.deref-in-loop-i-2.ensures.value both.other) c.loop-i.invariant
 
 pub tell_branches-returns : goal.tell_branches-returns
 tell_branches-returns t c =
-    let some : length c.args.trees.now ≡ 0 → ⊥ = eqb-false (length c.args.trees.now) 0 (sym c.if-is_empty.ensures) in
-    tells_all c.args.meaning c.args.trees.now c.loop-i.i c.loop-i.common.items c.args.told.now.items c.append.new.self.items (omega (arith, some)) (omega arith) c.in_ok-append.ensures.items c.loop-i.invariant
+    elim c.loop-i-test.branch [
+      | tell_branches-else-loop-i-test w ↦
+          let some : length c.args.trees.now ≡ 0 → ⊥ = eqb-false (length c.args.trees.now) 0 (sym c.if-is_empty.ensures) in
+          tells_all c.args.meaning c.args.trees.now c.loop-i.i c.loop-i.common.items c.args.told.now.items c.append.new.self.items (omega (arith, some)) (omega (arith, w.loop-i-test)) c.in_ok-append.ensures.items c.loop-i.invariant
+      | tell_branches-then-loop-i-test+then-tells_nothing w ↦
+          told_any c.args.meaning (in_choice (map pattern_of c.args.trees.now)) c.args.told.now.items c.append.new.self.items
+          (c.in_ok-append.ensures.items ∙ ap (λ (l : List Told). c.args.told.now.items ++ l) (sym w.deref.ensures.value ∙ w.tells_nothing.ensures w.if-tells_nothing.true))
+    ]
 
 pub tell_row-loop-i-preserved : goal.tell_row-loop-i-preserved
 tell_row-loop-i-preserved t c =
@@ -92,7 +98,3 @@ tell_row-returns t c =
     let ps = map pattern_of c.args.trees.now in
     kind_from (TellsRow c.args.meaning ps) (Tells c.args.meaning (in_sequence ps)) c.args.told.now.items c.loop-i.told.items (λ told h. tells_sequence c.args.meaning ps h)
     (all_told (TellsRow c.args.meaning (drop c.loop-i.i ps)) (TellsRow c.args.meaning ps) c.args.told.now.items c.loop-i.told.items (row_end c.args.meaning c.args.trees.now c.loop-i.i (omega arith)) c.loop-i.invariant)
-
-pub tell_branches-returns-in-Bytes : goal.tell_branches-returns-in-Bytes
-tell_branches-returns-in-Bytes t c =
-    told_any c.args.meaning (in_choice (map pattern_of c.args.trees.now)) c.args.told.now.items c.push.new.self.items c.in_ok-push.ensures.items
