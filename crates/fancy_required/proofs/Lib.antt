@@ -1,2 +1,3 @@
 pub mod EndsLemmas
+pub mod LongestLemmas
 pub mod ToldLemmas

@@ -1,5 +1,5 @@
 -- What is told of the bytes that a pattern consumes, whatever it matches.
-use Rattle.std.specs.Prelude.{◌≡◌, ℕ, ◌<◌, ◌≤◌, Bool, true, List, [], ◌∷◌, ◌++◌, map, length}
+use Rattle.std.specs.Prelude.{⊤, ◌≡◌, ℕ, ◌+◌, ◌-◌, ◌<◌, ◌≤◌, slice_index_or, Bool, true, List, [], ◌∷◌, ◌++◌, map, length}
 use Rattle.fancy_tree.specs.declared.tree.Assertion.{Assertion}
 use Rattle.fancy_tree.specs.declared.tree.Meaning.{Meaning}
 use Rattle.fancy_tree.specs.declared.tree.RepeatKind.{RepeatKind}
@@ -111,6 +111,24 @@ pub record HasText (m : Meaning) (p : Pattern) (text : List ℕ) : Type 0 where
   pub before : List Told
   pub after : List Told
   pub tells : Tells m p (before ++ (map One text ++ after))
+
+-- no text that is told, wherever that is, is longer
+abbrev pub IsLongest : List Told → List ℕ → Type 0
+IsLongest told text = (before after : List Told) (bytes : List ℕ) → told ≡ before ++ (map One bytes ++ after) → length bytes ≤ length text
+
+-- it is a byte that is told
+abbrev pub IsByte : Told → Type 0
+IsByte Gap = ⊥
+IsByte (One byte) = ⊤
+IsByte (Among set) = ⊥
+
+-- bytes are told from one number on up to another
+abbrev pub AreBytesTold : List Told → ℕ → ℕ → Type 0
+AreBytesTold told from to = (j : ℕ) → from ≤ j → j < to → IsByte (slice_index_or told j Gap)
+
+-- as many bytes are told from this number on as anywhere
+abbrev pub IsLongestFrom : List Told → ℕ → Type 0
+IsLongestFrom told at = (from to : ℕ) → AreBytesTold told from to → AreBytesTold told at (at + (to - from))
 
 -- the text stands from some place on, at this one or later, before the end
 pub record StandsFrom (haystack : List ℕ) (from end : ℕ) (text : List ℕ) : Type 0 where

@@ -5,7 +5,7 @@ ghost use Rattle.fancy_tree.specs.Members.{edges_of};
 ghost use Rattle.fancy_tree.specs.Pattern.{Pattern, pattern_of, character, in_choice, in_sequence};
 ghost use Rattle.fancy_tree.specs.Sets.{has};
 ghost use Rattle.fancy_tree.specs.declared.tree.Meaning.{Meaning as MeaningOf};
-ghost use Rattle.fancy_required.specs.Told.{gap, Adds, AddsSome, HasRow, HasText, ReadsItem, Tells, TellsBoth, TellsText};
+ghost use Rattle.fancy_required.specs.Told.{gap, Adds, AddsSome, HasRow, HasText, IsLongest, IsLongestFrom, ReadsItem, Tells, TellsBoth, TellsText};
 
 use fancy_bytes::byte_set::ByteSet;
 use fancy_bytes::items::is_ascii;
@@ -265,7 +265,9 @@ pub fn row_at(
 }
 
 /// From which number on the longest text is told, the first where several are.
-fn longest_text(told: &[Told]) -> usize {
+fn longest_text(told: &[Told]) -> usize
+    ensures { IsLongestFrom told.now result }
+{
     let mut longest = 0;
     let mut most = 0usize;
     let mut len = 0usize;
@@ -274,10 +276,10 @@ fn longest_text(told: &[Told]) -> usize {
             len = 0;
             continue;
         };
-        len = len.saturating_add(1);
+        len += 1;
         if len > most {
             most = len;
-            longest = (i + 1).saturating_sub(len);
+            longest = i + 1 - len;
         }
     }
     longest
@@ -285,8 +287,9 @@ fn longest_text(told: &[Told]) -> usize {
 
 /// The longest text that is told. It is refused where memory runs out.
 pub fn text_of(alloc: Global, told: &[Told]) -> Result<Vec<u8>, AllocError>
-    ensures { IfOk result (λ text. (m : MeaningOf) (p : Pattern)
+    ensures stands { IfOk result (λ text. (m : MeaningOf) (p : Pattern)
         → Tells m p told.now → HasText m p text.items) }
+    ensures longest { IfOk result (λ text. IsLongest told.now text.items) }
 {
     let from = longest_text(told);
     let mut text = Vec::new(alloc);

@@ -1,15 +1,16 @@
-use Rattle.std.proofs.Common.{◌++◌, ℕ, List, map, drop, ap, arith}
-use Rattle.fancy_required.specs.declared.told.Told.TheVariants.{One}
-use Rattle.fancy_required.proofs.ToldLemmas.{text_on, text_told}
+use Rattle.std.proofs.Common.{◌∙◌, arith}
+use Rattle.fancy_required.proofs.LongestLemmas.{no_longer, none_here, none_past}
+use Rattle.fancy_required.proofs.ToldLemmas.{text_told}
 use Rattle.fancy_required.proofs.told.text_of.Goals as goal
+use Rattle.fancy_required.proofs.told.text_of.Goals.{else-loop-i-test, then-loop-i-test+in_default}
 
-pub loop-i-init : goal.loop-i-init
-loop-i-init c = ap (λ (text : List ℕ). map One text ++ drop c.longest_text-from.result c.args.told.now) c.new-text.ensures.items
+pub returns-clause-stands : goal.returns-clause-stands
+returns-clause-stands c m p h = text_told m p c.args.told.now c.longest_text-from.result c.loop-i.i c.loop-i.text.items c.loop-i.invariant.is h
 
-pub loop-i-preserved : goal.loop-i-preserved
-loop-i-preserved c =
-    text_on c.args.told.now c.longest_text-from.result c.loop-i.i c.index-told-i.result c.in-One.byte c.loop-i.text.items c.push.new.self.items (omega arith) c.index-told-i.is c.in-One.is
-    c.in_ok-push.ensures.items c.loop-i.invariant
-
-pub returns : goal.returns
-returns c m p h = text_told m p c.args.told.now c.longest_text-from.result c.loop-i.i c.loop-i.text.items c.loop-i.invariant h
+pub returns-clause-longest : goal.returns-clause-longest
+returns-clause-longest c =
+    no_longer c.args.told.now c.longest_text-from.result c.loop-i.i c.loop-i.text.items c.longest_text-from.ensures c.loop-i.invariant.far
+    (elim c.loop-i-test.branch [
+      | else-loop-i-test w ↦ none_past c.args.told.now c.loop-i.i (omega (arith, w.loop-i-test))
+      | then-loop-i-test+in_default w ↦ none_here c.args.told.now c.loop-i.i w.index-told-i.result (omega (arith, w.loop-i-test)) (λ byte one. w.in_default.not-One byte (w.index-told-i.is ∙ one))
+    ])
