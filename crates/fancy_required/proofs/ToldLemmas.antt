@@ -15,7 +15,7 @@ use Rattle.fancy_bytes.specs.Items.{encoding}
 use Rattle.fancy_bytes.specs.Firsts.{first_bytes}
 use Rattle.fancy_tree.specs.Pattern.{Pattern, empty, character, raw_byte, assertion, group, repeat, in_sequence, in_choice, pattern_of}
 use Rattle.fancy_bytes.specs.Sets.{AddsBytes, ByteFlags, member}
-use Rattle.fancy_bytes.proofs.BoolLemmas.{first_holds, second_holds}
+use Rattle.fancy_bytes.proofs.BoolLemmas.{second_holds}
 use Rattle.fancy_bytes.proofs.ListLemmas.{next_part}
 use Rattle.fancy_required.specs.Told.{gap, Tells, TellsText, TellsLess, AreGaps, TellsBoth, TellsRow, TellsEach, AddsSome, HasRow, HasFirst, AreBytes, ReadsItem, any_bytes, of_character, of_assertion, of_byte, of_group, of_turns, of_item, of_byte_item, reads_character, reads_member, reads_any_case, no_gap, one_gap, no_byte, one_byte, IsLess, IsSetOf, HasText, nothing_told, no_more_told, same_gap, less_of_byte, of_nothing, of_parts, of_either, of_last, of_less, no_part, one_part, no_branch, one_branch}
 use Rattle.fancy_required.specs.declared.told.Told.{Told}
@@ -26,9 +26,6 @@ pub record SoFar (Rest Whole : List Told → Type 0) (old new : List Told) : Typ
   pub told : List Told
   pub is : new ≡ old ++ told
   pub whole : (more : List Told) → Rest more → Whole (told ++ more)
-
-pub begun : (Whole : List Told → Type 0) (old : List Told) → SoFar Whole Whole old old
-begun Whole old = record { told = []; is = sym (append-nil old); whole = λ more h. h }
 
 pub on : (Rest Next Whole : List Told → Type 0) (old now new add : List Told) → ((more : List Told) → Next more → Rest (add ++ more)) → new ≡ now ++ add
     → SoFar Rest Whole old now → SoFar Next Whole old new
@@ -54,17 +51,6 @@ byte_on bytes i more lt rest = subst (λ (l : List ℕ). TellsText l (One (slice
 
 pub text_end : (bytes : List ℕ) (i : ℕ) → length bytes ≤ i → TellsText (drop i bytes) []
 text_end bytes i le = subst (λ (l : List ℕ). TellsText l []) (sym (drop_all i bytes le)) no_byte
-
--- a union is a set of each of the two
-pub in_union : (set other wide : ByteFlags) (t : Told) → AddsBytes (member other) set wide → IsSetOf set t → IsSetOf wide t
-in_union set other wide Gap adds is = is
-in_union set other wide (One byte) adds is = λ lt. adds byte lt ∙ first_holds (member set byte) (member other byte) (is lt)
-in_union set other wide (Among told) adds is = λ b lt has. adds b lt ∙ first_holds (member set b) (member other b) (is b lt has)
-
-pub in_other : (set other wide : ByteFlags) (t : Told) → AddsBytes (member other) set wide → IsSetOf other t → IsSetOf wide t
-in_other set other wide Gap adds is = is
-in_other set other wide (One byte) adds is = λ lt. adds byte lt ∙ second_holds (member set byte) (member other byte) (is lt)
-in_other set other wide (Among told) adds is = λ b lt has. adds b lt ∙ second_holds (member set b) (member other b) (is b lt has)
 
 -- what is told at a place, and after it
 next_told : (told : List Told) (i : ℕ) (s : Told) → i < length told → s ≡ get_or told i s → s ∷ drop (i + 1) told ≡ drop i told
@@ -182,15 +168,6 @@ row_told m p told from i row less h = record {
 }
 
 -- a text, and what is told after it
-pub text_on : (told : List Told) (from i : ℕ) (s : Told) (byte : ℕ) (text new : List ℕ) → i < length told → s ≡ get_or told i s → s ≡ One byte → new ≡ text ++ (byte ∷ [])
-    → map One text ++ drop i told ≡ drop from told → map One new ++ drop (i + 1) told ≡ drop from told
-text_on told from i s byte text new lt is one more h =
-    ap (λ (l : List ℕ). map One l ++ drop (i + 1) told) more
-    ∙ ap (λ (l : List Told). l ++ drop (i + 1) told) (map-append One text (byte ∷ []))
-    ∙ append_assoc (map One text) (One byte ∷ []) (drop (i + 1) told)
-    ∙ ap (λ (l : List Told). map One text ++ l) (ap (λ (t : Told). t ∷ drop (i + 1) told) (sym one) ∙ next_told told i s lt is)
-    ∙ h
-
 pub text_told : (m : Meaning) (p : Pattern) (told : List Told) (from i : ℕ) (text : List ℕ) → map One text ++ drop i told ≡ drop from told → Tells m p told → HasText m p text
 text_told m p told from i text is h = record {
   before = take from told;
