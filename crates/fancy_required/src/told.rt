@@ -228,6 +228,11 @@ fn tell_common(first: &[Told], second: &[Told], told: &mut Vec<Told>) -> Result<
 }
 
 /// What the pattern tells, in this detail. It is refused where memory runs out.
+///
+/// ```text
+/// told_of(alloc, &tree, Meaning::Unicode, Detail::Sets)?     // of `[a-z]+@(x|y)`: a set, a gap, `@`, a set
+/// told_of(alloc, &tree, Meaning::Unicode, Detail::Bytes)?    // a gap, a gap, `@`, a gap
+/// ```
 pub fn told_of(
     alloc: Global,
     tree: &Tree,
@@ -241,7 +246,14 @@ pub fn told_of(
     Ok(told)
 }
 
-/// The sets that are told one after another from a number on, and no more than so many.
+/// The sets that are told one after another from a number on, and no more than so many. A byte is a set of one. It is refused where memory
+/// runs out.
+///
+/// ```text
+/// row_at(alloc, &told, 2, 8)?    // of `[a-z]+@(x|y)` the set of `@`, and that of `x` and `y`
+/// row_at(alloc, &told, 2, 1)?    // the set of `@`
+/// row_at(alloc, &told, 1, 8)?    // no set: a gap stands there
+/// ```
 pub fn row_at(
     alloc: Global,
     told: &[Told],
@@ -285,7 +297,12 @@ fn longest_text(told: &[Told]) -> usize
     longest
 }
 
-/// The longest text that is told. It is refused where memory runs out.
+/// The longest text that is told, the first where several are. It is empty where none is. It is refused where memory runs out.
+///
+/// ```text
+/// text_of(alloc, &told)?    // of `\d+-to-\d+:` the bytes of `-to-`
+/// text_of(alloc, &told)?    // of `\d+` no byte
+/// ```
 pub fn text_of(alloc: Global, told: &[Told]) -> Result<Vec<u8>, AllocError>
     ensures stands { IfOk result (λ text. (m : MeaningOf) (p : Pattern)
         → Tells m p told.now → HasText m p text.items) }
