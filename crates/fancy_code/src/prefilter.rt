@@ -9,6 +9,7 @@ ghost use Rattle.fancy_tree.specs.Sets.{has};
 ghost use Rattle.fancy_bytes.specs.Sets.{member};
 ghost use Rattle.fancy_bytes.specs.Rows.{Wider};
 ghost use Rattle.fancy_code.specs.Code.{instrs_of};
+ghost use Rattle.fancy_code.specs.CodeLength.{code_len};
 ghost use Rattle.fancy_code.specs.Compile.{IsCodeOf};
 ghost use Rattle.fancy_code.specs.Foretold.{AreForetold, Foretold, ForetoldPast, IsAnchored};
 
@@ -141,53 +142,41 @@ fn collect(code: &Code, spot: Spot, sets: &mut Vec<ByteSet>, left: &mut usize)
         return;
     }
     *left -= 1;
-    let deep = spot.deep - 1;
+    let counted = Spot {
+        deep: spot.deep - 1,
+        ..spot
+    };
+    collect_instruction(code, counted, sets, left);
+}
+
+/// The same by the spot's instruction, where that is counted already.
+#[cycle(collect)]
+fn collect_instruction(code: &Code, spot: Spot, sets: &mut Vec<ByteSet>, left: &mut usize)
+    requires inside { spot.from < length sets.old.items }
+    requires within { spot.at < code_len code.now }
+    ensures wider { Wider sets.old.items sets.new.items }
+    ensures told { Foretold (instrs_of code.now) code.now.meaning sets.new.items spot.from
+        spot.exact spot.at }
+{
     match code.instr(spot.at) {
         Instr::Fail => {}
         Instr::Character(character, next) => {
-            let after = Spot {
-                at: *next,
-                deep,
-                ..spot
-            };
+            let after = Spot { at: *next, ..spot };
             collect_character(code, after, *character, sets, left);
         }
         Instr::Member(set, next) => {
-            let after = Spot {
-                at: *next,
-                deep,
-                ..spot
-            };
+            let after = Spot { at: *next, ..spot };
             collect_members(code, after, code.set(*set), sets, left);
         }
         Instr::Assert(_, next) | Instr::Open(_, next) | Instr::Close(_, next) => {
-            collect(
-                code,
-                Spot {
-                    at: *next,
-                    deep,
-                    ..spot
-                },
-                sets,
-                left,
-            );
+            collect(code, Spot { at: *next, ..spot }, sets, left);
         }
         Instr::Split(first, second) => {
-            collect(
-                code,
-                Spot {
-                    at: *first,
-                    deep,
-                    ..spot
-                },
-                sets,
-                left,
-            );
+            collect(code, Spot { at: *first, ..spot }, sets, left);
             collect(
                 code,
                 Spot {
                     at: *second,
-                    deep,
                     ..spot
                 },
                 sets,

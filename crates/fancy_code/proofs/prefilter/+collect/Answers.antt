@@ -27,37 +27,37 @@ collect-returns-then-spot-eq0-clause-told t c =
     told_past c.args.code.now.meaning (instrs_of c.args.code.now) c.truncate.new.self.items c.args.spot.from c.args.spot.at c.args.spot.exact
     (omega (arith, ap length c.truncate.ensures.items, cut_length c.args.sets.now.items c.args.spot.from (omega (arith, c.if-spot-len.false, c.len.ensures))))
 
-pub collect-returns-in-Character-clause-told : goal.collect-returns-in-Character-clause-told
-collect-returns-in-Character-clause-told t c =
+pub collect_instruction-returns-in-Character-clause-told : goal.collect_instruction-returns-in-Character-clause-told
+collect_instruction-returns-in-Character-clause-told t c =
     told_character c.args.code.now.meaning (instrs_of c.args.code.now) c.collect_character.new.sets.items c.args.spot.from c.args.spot.at c.in-Character.next c.args.spot.exact
     c.in-Character.character (sym c.instr.ensures.instr ∙ ap (instr_in c.args.code.now) c.in-Character.is) c.collect_character.ensures.told
 
-pub collect-returns-in-Member-clause-told : goal.collect-returns-in-Member-clause-told
-collect-returns-in-Member-clause-told t c =
+pub collect_instruction-returns-in-Member-clause-told : goal.collect_instruction-returns-in-Member-clause-told
+collect_instruction-returns-in-Member-clause-told t c =
     told_member c.args.code.now.meaning (instrs_of c.args.code.now) c.collect_members.new.sets.items c.args.spot.from c.args.spot.at c.in-Member.next c.args.spot.exact
     _ (sym c.instr.ensures.instr ∙ ap (instr_in c.args.code.now) c.in-Member.is)
     (subst (λ (es : List ℕ). ForetoldPast (instrs_of c.args.code.now) c.args.code.now.meaning c.collect_members.new.sets.items c.args.spot.from c.args.spot.exact (has es) 1 5 c.in-Member.next)
     c.set.ensures c.collect_members.ensures.told)
 
-pub collect-returns-in-Split-clause-told : goal.collect-returns-in-Split-clause-told
-collect-returns-in-Split-clause-told t c =
+pub collect_instruction-returns-in-Split-clause-told : goal.collect_instruction-returns-in-Split-clause-told
+collect_instruction-returns-in-Split-clause-told t c =
     told_split c.args.code.now.meaning (instrs_of c.args.code.now) c.collect-in-Split.new.sets.items c.args.spot.from c.args.spot.at c.args.spot.exact c.in-Split.first c.in-Split.second
     (sym c.instr.ensures.instr ∙ ap (instr_in c.args.code.now) c.in-Split.is)
     (wider_told c.args.code.now.meaning (instrs_of c.args.code.now) c.args.spot.from c.in-Split.first c.args.spot.exact c.collect.new.sets.items c.collect-in-Split.new.sets.items
     c.collect-in-Split.ensures.wider c.collect.ensures.told)
     c.collect-in-Split.ensures.told
 
-pub collect-returns-in_default : goal.collect-returns-in_default
-collect-returns-in_default t c =
-    let lt : c.args.spot.from < length c.args.sets.now.items = omega (arith, c.if-spot-len.false, c.len.ensures) in
+pub collect_instruction-returns-in_default : goal.collect_instruction-returns-in_default
+collect_instruction-returns-in_default t c =
+    let lt : c.args.spot.from < length c.args.sets.now.items = c.requires.inside in
     record {
-      wider = subst (λ (l : List ByteFlags). Wider c.args.sets.now.items l) (sym c.truncate-in_default.ensures.items) (wider_cut c.args.sets.now.items c.args.spot.from lt);
-      told = told_past c.args.code.now.meaning (instrs_of c.args.code.now) c.truncate-in_default.new.self.items c.args.spot.from c.args.spot.at c.args.spot.exact
-          (omega (arith, ap length c.truncate-in_default.ensures.items, cut_length c.args.sets.now.items c.args.spot.from lt));
+      wider = subst (λ (l : List ByteFlags). Wider c.args.sets.now.items l) (sym c.truncate.ensures.items) (wider_cut c.args.sets.now.items c.args.spot.from lt);
+      told = told_past c.args.code.now.meaning (instrs_of c.args.code.now) c.truncate.new.self.items c.args.spot.from c.args.spot.at c.args.spot.exact
+          (omega (arith, ap length c.truncate.ensures.items, cut_length c.args.sets.now.items c.args.spot.from lt));
     }
 
-pub collect-returns-in-Assert-clause-told : goal.collect-returns-in-Assert-clause-told
-collect-returns-in-Assert-clause-told t c =
+pub collect_instruction-returns-in-Assert-clause-told : goal.collect_instruction-returns-in-Assert-clause-told
+collect_instruction-returns-in-Assert-clause-told t c =
     elim c.in-Assert.is [
       | inl a ↦ told_assert c.args.code.now.meaning (instrs_of c.args.code.now) c.collect-in-Assert.new.sets.items c.args.spot.from c.args.spot.at c.args.spot.exact a.0 c.in-Assert.next
           (sym c.instr.ensures.instr ∙ ap (instr_in c.args.code.now) a.1) c.collect-in-Assert.ensures.told

@@ -7,16 +7,19 @@ use Rattle.fancy_code.specs.Foretold.{ForetoldPast}
 use Rattle.fancy_code.proofs.prefilter.+collect.Given as goal
 
 abbrev pub decreases-collect : goal.decreases-collect
-decreases-collect l = l.spot.deep * 3
+decreases-collect l = l.spot.deep * 4
+
+abbrev pub decreases-collect_instruction : goal.decreases-collect_instruction
+decreases-collect_instruction l = l.spot.deep * 4 + 3
 
 abbrev pub decreases-collect_sizes : goal.decreases-collect_sizes
-decreases-collect_sizes l = l.spot.deep * 3 + 1
+decreases-collect_sizes l = l.spot.deep * 4 + 1
 
 abbrev pub decreases-collect_members : goal.decreases-collect_members
-decreases-collect_members l = l.spot.deep * 3 + 2
+decreases-collect_members l = l.spot.deep * 4 + 2
 
 abbrev pub decreases-collect_character : goal.decreases-collect_character
-decreases-collect_character l = l.spot.deep * 3 + 1
+decreases-collect_character l = l.spot.deep * 4 + 1
 
 abbrev pub invariant-collect_members-loop-size : goal.invariant-collect_members-loop-size
 invariant-collect_members-loop-size l = record {
