@@ -32,6 +32,16 @@ struct Turns {
     high: Option<u32>,
 }
 
+impl Turns {
+    /// At least so many, and no more than the other, if there is one.
+    fn new(low: u32, high: Option<u32>) -> Turns
+        ensures low { result.low ≡ low }
+        ensures high { result.high ≡ high }
+    {
+        Turns { low, high }
+    }
+}
+
 /// A choice between one more turn and none.
 fn split(greedy: bool, more: usize, less: usize) -> Instr
     ensures instr { (sets : List CharSet) → with_set sets result ≡ split_of greedy more less }
@@ -65,40 +75,29 @@ fn emit(code: &mut Emitter, meaning: Meaning, tree: &Tree, next: Entry) -> Resul
     ensures { IfOk result (λ entry.
         Emits meaning (pattern_of tree.now) code.old code.new next entry) }
 {
+    let Entry { moved, still } = next;
     match tree {
         Tree::Empty => Ok(next),
-        Tree::Character(c) => code.put_shared(Instr::Character(*c, next.moved)),
+        Tree::Character(c) => code.put_shared(Instr::Character(*c, moved)),
         Tree::Member(set) | Tree::InAnyCase(set) => code.put_member(meaning, set, next),
-        Tree::RawByte(byte) => code.put_shared(Instr::RawByte(*byte, next.moved)),
-        Tree::Assertion(a) => code.put_both(
-            Instr::Assert(*a, next.moved),
-            Instr::Assert(*a, next.still),
-        ),
+        Tree::RawByte(byte) => code.put_shared(Instr::RawByte(*byte, moved)),
+        Tree::Assertion(a) => code.put_both(Instr::Assert(*a, moved), Instr::Assert(*a, still)),
         Tree::Group { index, body } => emit_group(code, meaning, *index, body, next),
         Tree::Repeat {
             low,
             high,
             kind,
             body,
-        } => {
-            let turns = Turns {
-                low: *low,
-                high: *high,
-            };
-            emit_kind(code, meaning, *kind, turns, body, next)
-        }
+        } => emit_kind(code, meaning, *kind, Turns::new(*low, *high), body, next),
         Tree::Concat(parts) => emit_sequence(code, meaning, parts, next),
         Tree::Alternation(branches) => emit_choice(code, meaning, branches, next),
         Tree::Backreference { folded, group } => code.put_recall(meaning, *folded, *group, next),
         Tree::GroupTest(number) => code.put_both(
-            Instr::Taken(*number, next.moved),
-            Instr::Taken(*number, next.still),
+            Instr::Taken(*number, moved),
+            Instr::Taken(*number, still),
         ),
-        Tree::KeepStart => code.put_both(Instr::Keep(next.moved), Instr::Keep(next.still)),
-        Tree::ContinueHere => code.put_both(
-            Instr::Continue(next.moved),
-            Instr::Continue(next.still),
-        ),
+        Tree::KeepStart => code.put_both(Instr::Keep(moved), Instr::Keep(still)),
+        Tree::ContinueHere => code.put_both(Instr::Continue(moved), Instr::Continue(still)),
         Tree::LookAhead { negated, body } => { emit_ahead(code, meaning, *negated, body, next) }
         Tree::Atomic(body) => emit_atomic(code, meaning, body, next),
         Tree::Conditional {
