@@ -114,20 +114,30 @@ fn is_told_little(prefilter: &Prefilter) -> bool {
     !prefilter.scans_for_opening() && starts_differ
 }
 
-/// From how many steps on that a search may take it is worth the automaton's: where the runner would make many attempts, or long ones.
-/// `None` where none is. Where a table tells words apart, the runner tries those alone that may match, which takes less.
-pub fn least_steps(code: &Code) -> Option<usize> {
+/// Whether a scan finds many places at which a match may begin.
+fn begins_often(prefilter: &Prefilter) -> bool {
+    is_told_little(prefilter) || begin_sometimes(prefilter)
+}
+
+/// Whether the runner makes few attempts, and short ones.
+pub fn has_short_attempts(code: &Code) -> bool {
+    !begins_often(&code.prefilter) && !opens_wide(code) && !has_wide_loop(code)
+}
+
+/// From how many steps on that a search may take it is worth the automaton's. `None` where none is: where a table tells words apart, the
+/// runner tries those alone that may match, and where attempts are short, those few that a scan for a text or for a byte past ASCII finds.
+pub fn least_steps(code: &Code, is_short: bool) -> Option<usize> {
     let prefilter = &code.prefilter;
     if tells_words(prefilter) {
         return None;
     }
-    if is_told_little(prefilter) || begin_sometimes(prefilter) {
+    if begins_often(prefilter) {
         return Some(LEAST_STEPS);
     }
-    if opens_wide(code) || has_wide_loop(code) {
-        return Some(LEAST_STEPS_SCANNED);
+    if is_short && (prefilter.has_text() || !starts_in_ascii(prefilter)) {
+        return None;
     }
-    None
+    Some(LEAST_STEPS_SCANNED)
 }
 
 /// So many steps of the runner for each byte take about as long as those of the automaton that it remembers.
@@ -135,6 +145,9 @@ const STEPS_A_BYTE: usize = 2;
 
 /// Searches by the runner that take more steps together tell whether the automaton may save some.
 pub const MOST_TRIED: usize = 8192;
+
+/// Where searches by the runner took few steps up to a place so many bytes on, it goes on alone.
+pub const QUICK_BYTES: usize = 2048;
 
 /// Whether a row of sets is looked for that each match goes on to.
 fn has_row(prefilter: &Prefilter) -> bool {

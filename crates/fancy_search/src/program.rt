@@ -48,8 +48,8 @@ use crate::step_pool::StepPool;
 use crate::straight::{StraightEnd, is_item_or_run, past_straight, past_turns, straight_end};
 use fancy_automaton::search as automaton;
 use fancy_automaton::worth::{
-    LEAST_WORTH, MOST_TRIED, MOST_WORTH, SEARCH, TABLE, WORTH, leaps, least_steps, may_lead,
-    saved_steps,
+    LEAST_WORTH, MOST_TRIED, MOST_WORTH, QUICK_BYTES, SEARCH, TABLE, WORTH, has_short_attempts,
+    leaps, least_steps, may_lead, saved_steps,
 };
 use fancy_bytes::lacking::{KnownBytes, RequiredBytes};
 use fancy_code::code::Code;
@@ -104,6 +104,8 @@ pub struct Program {
     ungrouped: bool,
     /// From how many steps on that a search may take it is worth those of the automaton, if it ever is.
     least_steps: Option<usize>,
+    /// Whether the runner makes few attempts, and short ones.
+    is_short: bool,
     /// The bytes that every haystack with a match has.
     required: RequiredBytes,
     /// What is told of the machine's attempts.
@@ -146,6 +148,7 @@ impl Drop for Program {
             plain: _,
             ungrouped: _,
             least_steps: _,
+            is_short: _,
             required: _,
             prices: _,
             pool: _,
@@ -250,12 +253,13 @@ impl Program {
         let straight = straight_end(&code);
         let plain = is_plain(&code);
         let ungrouped = ends_no_group(&code);
+        let is_short = easy && has_short_attempts(&code);
         let least_steps = if is_item_or_run(&code)
             || straight.is_some() && code.prefilter.scans_for_opening()
         {
             None
         } else {
-            least_steps(&code)
+            least_steps(&code, is_short)
         };
         let required = RequiredBytes::new(alloc, &tree, options.meaning())?;
         let prices = prices_of(alloc, &code, easy)?;
@@ -274,6 +278,7 @@ impl Program {
             plain,
             ungrouped,
             least_steps,
+            is_short,
             required,
             prices,
             pool,
@@ -722,7 +727,12 @@ impl Program {
     {
         let after = patience.after(taken);
         if !self.is_led(asked) {
-            self.pool.spend(taken);
+            let place = end_of(found, *asked.request);
+            if !patience.is_quick(taken, place) {
+                self.pool.spend(taken);
+            } else if place.saturating_sub(after.first) >= QUICK_BYTES {
+                return Kept::Runner(None);
+            }
             return Kept::Begun(after);
         }
         let (haystack, request) = (asked.haystack, *asked.request);
@@ -924,6 +934,7 @@ impl Program {
             steps,
             taken: 0,
             first,
+            is_short: self.is_short,
         })
     }
 
@@ -955,8 +966,11 @@ impl Program {
         let before = work.steps();
         let mut cache = runner::Cache::new(*self.text.allocator());
         let begun = self.begin(haystack, request, patience, &mut cache, work)?;
-        if matches!(&begun, Begun::Ended(_)) {
-            self.pool.spend(work.steps() - before);
+        if let Begun::Ended(found) = &begun {
+            let taken = work.steps() - before;
+            if !patience.is_quick(taken, end_of(*found, request)) {
+                self.pool.spend(taken);
+            }
         }
         Ok(Some(begun))
     }
