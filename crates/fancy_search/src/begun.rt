@@ -1,7 +1,5 @@
 //! What the runner comes to in a search that it begins and the automaton may go on with, or that the automaton leads.
 
-ghost use Rattle.std.specs.Prelude.{◌≡◌, None};
-
 use crate::cache::Kept;
 use fancy_automaton::search::Candidate;
 use fancy_code::found::Found;
@@ -22,18 +20,6 @@ pub(crate) struct Led {
     pub(crate) found: Option<Found>,
     /// What is kept for the next search.
     pub(crate) kept: Kept,
-}
-
-impl Led {
-    /// Nothing was found, and the steps are kept.
-    pub(crate) fn nothing() -> Led
-        ensures { result ≡ record { found = None; kept = Kept.Steps } }
-    {
-        Led {
-            found: None,
-            kept: Kept::Steps,
-        }
-    }
 }
 
 /// The attempts by the runner in a search that the automaton led.

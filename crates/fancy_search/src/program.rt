@@ -713,8 +713,9 @@ impl Program {
         asked.groups && !self.ungrouped
     }
 
-    /// What is kept after a search of a list by the runner that took so many steps: its patience. Where groups are asked, only those steps
-    /// count that the automaton may have saved; where these are few of many, the runner serves alone from then on.
+    /// What is kept after a search of a list by the runner that took so many steps: its patience. Where the searches took few steps for many
+    /// bytes, the runner serves alone from then on. Where groups are asked, only those steps count that the automaton may have saved, and it
+    /// serves alone where these are few of many.
     fn kept_after(
         &self,
         asked: &Asked<'_>,
@@ -817,7 +818,10 @@ impl Program {
             return Err(Error::Memory);
         };
         if from.told > request.range_end {
-            return Ok(Led::nothing());
+            return Ok(Led {
+                found: None,
+                kept: Kept::Steps,
+            });
         }
         let rest = Request {
             start: from.told,
@@ -1572,41 +1576,6 @@ impl Program {
         Some(self.match_to(asked.haystack, request.range_end, position, past))
     }
 
-    /// Whether the automaton follows the code in what is asked, no group is to be given, and no limit of steps to be heeded.
-    fn follows_freely(&self, asked: &Asked<'_>) -> bool
-        ensures easy { result ≡ true → program_is_easy self.now ≡ true }
-        ensures plain { result ≡ true → ArePlain (instrs_of self.now.code) }
-        ensures whole { result ≡ true → EndsNoGroup (instrs_of self.now.code) }
-        ensures places { result ≡ true → KeepsPlaces asked.now.haystack.now self.now.code.meaning
-            (search_options self.now.options).on_boundaries }
-    {
-        if !self.easy || !self.ungrouped || self.options.step_limit.is_some() {
-            return false;
-        }
-        self.can_follow(asked.text)
-    }
-
-    /// The search of an anchored request for an easy pattern, as far as steps tell it that the automaton remembers.
-    fn recall(
-        &self,
-        haystack: &[u8],
-        request: Request,
-        steps: &RememberedSteps,
-    ) -> Option<Option<Found>>
-        requires followable { IsFollowable self.now haystack.now request }
-        requires whole { EndsNoGroup (instrs_of self.now.code) }
-        requires anchored { request.anchored ≡ true }
-        requires kept { AreStepsOf self.now.code steps.now }
-        ensures { IfSome result (λ m. (on : Bool)
-            → answer_with (replicate (program_groups self.now) None) m
-            ≡ search (asked_of self.now haystack.now request on)) }
-    {
-        let options = self.options.for_search();
-        let cells = &steps.cells;
-        let found = automaton::find_told(&self.code, haystack, request, options, cells)?;
-        Some(found)
-    }
-
     /// The match that an attempt at one position finds, as [`Program::attempt_in_list`], where steps tell it that the automaton
     /// remembers in the notes. `None` elsewhere. Nothing is counted, and no limit is met.
     pub fn find_told(
@@ -1623,12 +1592,16 @@ impl Program {
         ensures answer { IfSome result
             (λ m. IsAttemptIn m cache.new (query_in self.now asked.now) position) }
     {
-        if !self.follows_freely(asked) {
+        if !self.easy || !self.ungrouped || self.options.step_limit.is_some() {
             return None;
         }
-        let steps = notes.kept_steps()?;
-        let from_position = anchored_at(*asked.request, position);
-        let found = self.recall(asked.haystack, from_position, steps)?;
+        if !self.can_follow(asked.text) {
+            return None;
+        }
+        let cells = &notes.kept_steps()?.cells;
+        let request = anchored_at(*asked.request, position);
+        let options = self.options.for_search();
+        let found = automaton::find_told(&self.code, asked.haystack, request, options, cells)?;
         cache.served = Engine::WithoutGroups(self.code.groups);
         Some(found)
     }

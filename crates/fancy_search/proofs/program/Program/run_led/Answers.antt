@@ -1,15 +1,12 @@
-use Rattle.std.proofs.Common.{◌+◌, ◌∙◌, Option, ap, arith, refl, sym, inl, inr}
+use Rattle.std.proofs.Common.{◌+◌, ◌∙◌, Option, arith, refl, sym, inl, inr}
 use Rattle.std.proofs.lemmas.Result.{err_from_is_err_and}
 use Rattle.fancy_input.specs.Requests.{effective_start}
 use Rattle.fancy_automaton.specs.Decided.{IsAnsweredFrom}
-use Rattle.fancy_code.specs.Queries.{answer_with}
 use Rattle.fancy_code.specs.declared.found.Found.{Found}
 use Rattle.fancy_meaning.specs.Search.{Query}
-use Rattle.fancy_runner.specs.Groups.{groups_in}
 use Rattle.fancy_states.proofs.RememberedLemmas.{remembers, recalls}
 use Rattle.fancy_search.specs.Programs.{asked_of, program_length, program_options, program_step_limit}
 use Rattle.fancy_search.specs.SearchCounts.{step_bound}
-use Rattle.fancy_search.specs.declared.begun.Led.{Led}
 use Rattle.fancy_search.proofs.LaterLemmas.{fewer_from, rest_none, rest_same, rest_untried, without_filters, work_for_fewer}
 use Rattle.fancy_search.proofs.RefusalLemmas.{only_memory}
 use Rattle.fancy_search.proofs.SearchedLemmas.{known}
@@ -35,8 +32,7 @@ returns-then-from-request-clause-answer c on =
     let told = c.in-Ok.from.told in
     let answered = without_filters c.args.self.now c.args.haystack.now c.args.request on c.requires.followable.easy (λ (q : Query). IsAnsweredFrom q told)
     (known _ _ c.args.self.now.compiled (λ compiled. rw (c.args.self.now.meant, c.for_search-options.ensures) at (c.in-Ok.ensures.answer _ on compiled.coded))) in
-    ap (λ (led : Led). answer_with (groups_in c.args.cache.now) led.found) c.nothing.ensures
-    ∙ sym (rest_none (asked_of c.args.self.now c.args.haystack.now c.args.request on) told (omega (arith, c.if-from-request.true)) answered)
+    sym (rest_none (asked_of c.args.self.now c.args.haystack.now c.args.request on) told (omega (arith, c.if-from-request.true)) answered)
 
 pub returns-in_err-found-clause-idle : goal.returns-in_err-found-clause-idle
 returns-in_err-found-clause-idle c on none =
