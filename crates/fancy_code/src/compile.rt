@@ -18,7 +18,7 @@ use crate::code::{Code, Entry, FAIL, Instr, MATCH};
 use crate::emitter::Emitter;
 use crate::prefilter::with_starts;
 use fancy_prefilter::prefilter::{Anchor, Prefilter};
-use fancy_prefilter::reach::Reach;
+use fancy_prefilter::reach::{Reach, Target};
 use fancy_tree::char_set::CharSet;
 use fancy_tree::measure::are_empty;
 use fancy_tree::set::Set;
@@ -559,8 +559,11 @@ fn compile_alone(
 }
 
 /// Whether it is worth to look for a row that each match goes on to: where matches start at starts of lines, texts are to have it seldom.
-fn is_worth_row(prefilter: &Prefilter, row: &Reach) -> bool {
-    row.is_rare() || !matches!(prefilter.anchor, Anchor::AtLines(_))
+fn is_worth_row(prefilter: &Prefilter, reach: &Reach) -> bool {
+    match (&prefilter.anchor, &reach.target) {
+        (Anchor::AtLines(_), Target::Row(row)) => row.is_rare,
+        _ => true,
+    }
 }
 
 /// The same code, with the row of sets that each match goes on to, where else little is told of where matches begin.

@@ -169,14 +169,6 @@ impl Reach {
         }))
     }
 
-    /// Whether texts have what it goes on to so seldom that it is worth to look for it in short ones too.
-    pub fn is_rare(&self) -> bool {
-        match &self.target {
-            Target::Row(row) => row.is_rare,
-            Target::Text(_) | Target::TextEnd => true,
-        }
-    }
-
     /// Whether a match may have the byte in it. One that is not ASCII may be within a character.
     pub fn may_have(&self, byte: u8) -> bool
         ensures ascii { result ≡ false → byte < 128 }
