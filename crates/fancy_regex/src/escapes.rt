@@ -26,17 +26,14 @@ pub fn escape(alloc: Global, text: &str) -> Result<CowStr<'_, Global>>
     ensures borrowed { IfOk result (λ r. IsBorrowedStr r ↔ (has_special (chars text.now) ≡ false)) }
     ensures refused { IfErr result (λ e. e ≡ Error.Memory) }
 {
-    if !any_special(text) {
+    if !text.chars().any(is_special) {
         return Ok(CowStr::Borrowed(text));
     }
-    let escaped = with_escapes(alloc, text)?;
+    let mut escaped = String::new(alloc);
+    for c in text.chars() {
+        push_escaped(&mut escaped, c)?;
+    }
     Ok(CowStr::Owned(escaped))
-}
-
-fn any_special(text: &str) -> bool
-    ensures { result ≡ has_special (chars text.now) }
-{
-    text.chars().any(is_special)
 }
 
 /// Whether a character means something in a pattern.
@@ -48,17 +45,6 @@ fn is_special(c: char) -> bool
         c,
         '\\' | '.' | '+' | '*' | '?' | '(' | ')' | '|' | '[' | ']' | '{' | '}' | '^' | '$' | '#'
     )
-}
-
-fn with_escapes(alloc: Global, text: &str) -> std::result::Result<String, AllocError>
-    ensures { IfOk result (λ s.
-        string_bytes s ≡ encode_utf8_all (flat_map escaped_character (chars text.now))) }
-{
-    let mut escaped = String::new(alloc);
-    for c in text.chars() {
-        push_escaped(&mut escaped, c)?;
-    }
-    Ok(escaped)
 }
 
 #[tactic(auto, unfolding(crate::specs::Escapes::escaped_character))]

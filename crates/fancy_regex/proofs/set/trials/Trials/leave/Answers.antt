@@ -1,4 +1,4 @@
-use Rattle.std.proofs.Common.{◌≡◌, ◌∙◌, ◌+◌, ◌<◌, ℕ, length, slice_get, Some, ap, sym, subst, arith}
+use Rattle.std.proofs.Common.{◌≡◌, ◌∙◌, ℕ, length, slice_get, Some, ap, sym, subst, arith}
 use Rattle.std.proofs.lemmas.Option.{slice_get-get_or}
 use Rattle.fancy_regex.specs.declared.set.trials.Trials.{Trials}
 use Rattle.fancy_regex.proofs.TrialLemmas.{held_fewer, held_of_last}
