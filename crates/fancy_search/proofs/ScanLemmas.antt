@@ -1,5 +1,5 @@
 -- What the searches of an iteration owe its list.
-use Rattle.std.proofs.Common.{arith, le_trans, ℕ, suc, ◌≤◌, ◌<◌, ◌^◌, ◌≡◌, Bool, true, false, max, List, [], length, Option, Some, None, IsUtf8, if◌then◌else◌, option_map, refl, sym, ap}
+use Rattle.std.proofs.Common.{arith, le_trans, ℕ, suc, ◌≤◌, ◌<◌, ◌^◌, ◌≡◌, Bool, true, false, max, List, [], length, Option, Some, None, IsUtf8, if◌then◌else◌, refl, sym}
 use Rattle.std.proofs.lemmas.Grind.{common_steps}
 use Rattle.fancy_input.specs.declared.input.Request.{Request}
 use Rattle.fancy_input.specs.Requests.{effective_start}
@@ -15,10 +15,9 @@ use Rattle.fancy_meaning.proofs.FoundLemmas.{answer_within, found-is_reached}
 use Rattle.fancy_search.specs.declared.program.Program.{Program}
 use Rattle.fancy_search.specs.Programs.{asked_of, program_options}
 use Rattle.fancy_search.specs.Searching.{Suits}
-use Rattle.fancy_search.specs.MatchList.{Scan, MatchItem, answer, item_of, Sound, items_from}
+use Rattle.fancy_search.specs.MatchList.{Scan, MatchItem, answer, Sound, items_from}
 use Rattle.fancy_search.specs.Remaining.{Standing, scan, upcoming, items_left, turns_left}
-use Rattle.fancy_search.specs.FoundItems.{HasGroups, item_in}
-use Rattle.fancy_code.specs.Queries.{answer_with}
+use Rattle.fancy_search.specs.FoundItems.{HasGroups}
 use Rattle.fancy_search.proofs.CutLemmas.{groups_cut}
 use Rattle.fancy_search.proofs.MatchListLemmas.{few_items, items_none}
 use Rattle.fancy_search.proofs.RemainingLemmas.{keeps_none, next_left, none_left, none_end}
@@ -60,14 +59,6 @@ pub answered_groups : (program : Program) (text : Bool) (bytes haystack : List �
 answered_groups program text bytes haystack r c m f cache range same found suits utf8 e = record {
   cut = λ n. groups_cut program text haystack r c f cache _ n range suits (λ t. rw same at (utf8 t)) (rw (found, same) at e);
 }
-
--- what a search answered is the item of its answer
-pub answered_item : (cache : Cache) (from : ℕ) (on : Bool) (m : Option Found) (o : Option Answer) → answer_with (groups_or cache (groups_of 0 o)) m ≡ o
-    → option_map (item_in cache (option_map (item_of from on) o)) (option_map (λ f. record { found = f; from = from; continues = on }) m) ≡ option_map (item_of from on) o
-answered_item cache from on None None e = refl
-answered_item cache from on None (Some a) e = cc
-answered_item cache from on (Some f) None e = cc
-answered_item cache from on (Some f) (Some a) e = ap (option_map (item_of from on)) e
 
 -- past the range's end a search finds none
 none_past : (program : Program) (text : Bool) (haystack : List ℕ) (r : Request) (s : ℕ) (c : Bool) → r.range_end < s → answer (scan program text haystack r) s c ≡ None
