@@ -176,13 +176,13 @@ fn seek(attempt: &Attempt, cells: &Cells, from: Sole, idle: usize, any: bool) ->
 
 /// The next place at which a match may begin, if no way waits and nothing was found, and first bytes tell it.
 #[inline(always)]
-fn skip(attempt: &Attempt, cells: &Cells, from: Sole, idle: usize) -> Option<Sole>
+fn skip(attempt: &Attempt, cells: &Cells, from: Sole, idle: usize, scans: bool) -> Option<Sole>
     requires idle { IsIdle cells.now.rows.lists.items idle }
     requires sole { IsSole attempt.now cells.now from }
     requires nothing { from.end ≡ None }
     ensures { IfSome result (Reaches attempt.now cells.now from.stand.place) }
 {
-    if from.stand.next != idle || passes_far(attempt) {
+    if from.stand.next != idle || scans {
         return Some(from);
     }
     let place = next_place(attempt, from.stand.place);
@@ -199,7 +199,7 @@ fn skip(attempt: &Attempt, cells: &Cells, from: Sole, idle: usize) -> Option<Sol
 /// The next place at which all ways that wait began at one place again, or if none waits there, and nothing was found, the one after it at
 /// which a match may begin.
 #[inline(never)]
-fn onward(attempt: &Attempt, cells: &Cells, from: Amid, idle: usize) -> Option<Sole>
+fn onward(attempt: &Attempt, cells: &Cells, from: Amid, idle: usize, scans: bool) -> Option<Sole>
     requires idle { IsIdle cells.now.rows.lists.items idle }
     requires led { IsLed attempt.now cells.now from }
     ensures { IfSome result (Reaches attempt.now cells.now (from.stand.place + 1)) }
@@ -208,13 +208,20 @@ fn onward(attempt: &Attempt, cells: &Cells, from: Amid, idle: usize) -> Option<S
     if sole.end.is_some() {
         return Some(sole);
     }
-    let next = skip(attempt, cells, sole, idle)?;
+    let next = skip(attempt, cells, sole, idle, scans)?;
     Some(next)
 }
 
 /// The step at a place where a match is found, or on past ways that began at several places, and places where none waits.
 #[inline(always)]
-fn past(attempt: &Attempt, cells: &Cells, at: Sole, idle: usize, any: bool) -> Option<Sole>
+fn past(
+    attempt: &Attempt,
+    cells: &Cells,
+    at: Sole,
+    idle: usize,
+    any: bool,
+    scans: bool,
+) -> Option<Sole>
     requires idle { IsIdle cells.now.rows.lists.items idle }
     requires sole { IsSole attempt.now cells.now at }
     requires nothing { at.end ≡ None }
@@ -224,7 +231,7 @@ fn past(attempt: &Attempt, cells: &Cells, at: Sole, idle: usize, any: bool) -> O
         return None;
     }
     if any && at.stand.next == idle && !may_start(attempt, at.stand.place) {
-        let next = skip(attempt, cells, at, idle)?;
+        let next = skip(attempt, cells, at, idle, scans)?;
         if next.stand.place > at.stand.place {
             return Some(next);
         }
@@ -233,14 +240,14 @@ fn past(attempt: &Attempt, cells: &Cells, at: Sole, idle: usize, any: bool) -> O
     let told = told_at(attempt, table, at.stand.opened, at.stand.place, any)?;
     if let Some(step) = quiet_step(*told.entry) {
         if step.next as usize != idle {
-            return onward(attempt, cells, Amid::new(cells, at), idle);
+            return onward(attempt, cells, Amid::new(cells, at), idle, scans);
         }
         let sole = Sole {
             stand: stand_after(told.past, step),
             start: at.stand.place,
             end: None,
         };
-        return skip(attempt, cells, sole, idle);
+        return skip(attempt, cells, sole, idle, scans);
     }
     let Entry::Matching(step) = *told.entry else {
         return None;
@@ -311,17 +318,18 @@ pub(crate) fn follow(attempt: &Attempt, cells: &Cells, from: Sole) -> Sole
     ensures reaches { Reaches attempt.now cells.now from.stand.place result }
 {
     let idle = idle_row(cells);
+    let scans = !cells.walks && passes_far(attempt);
     let mut at = from;
     'places: while at.end.is_none() {
         at = seek(attempt, cells, at, idle, false);
-        if at.stand.next == idle && passes_far(attempt) {
+        if at.stand.next == idle && scans {
             return at;
         }
-        match past(attempt, cells, at, idle, false) {
+        match past(attempt, cells, at, idle, false, scans) {
             None => return at,
             Some(next) => at = next,
         }
-        if at.stand.next == idle && passes_far(attempt) {
+        if at.stand.next == idle && scans {
             return at;
         }
     }
@@ -338,17 +346,18 @@ pub(crate) fn follow_any(attempt: &Attempt, cells: &Cells, from: Sole) -> Sole
     ensures reaches { Reaches attempt.now cells.now from.stand.place result }
 {
     let idle = idle_row(cells);
+    let scans = !cells.walks && passes_far(attempt);
     let mut at = from;
     'places: while at.end.is_none() {
         at = seek(attempt, cells, at, idle, true);
-        if at.stand.next == idle && passes_far(attempt) {
+        if at.stand.next == idle && scans {
             return at;
         }
-        match past(attempt, cells, at, idle, true) {
+        match past(attempt, cells, at, idle, true, scans) {
             None => return at,
             Some(next) => at = next,
         }
-        if at.stand.next == idle && passes_far(attempt) {
+        if at.stand.next == idle && scans {
             return at;
         }
     }

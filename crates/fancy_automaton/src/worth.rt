@@ -9,7 +9,6 @@ use fancy_prefilter::branches::WIDE;
 use fancy_prefilter::candidates::{next_candidate, next_opening};
 use fancy_prefilter::prefilter::{Anchor, Opening, Prefilter};
 use fancy_prefilter::reach::Target;
-use fancy_states::origin::begin_sometimes;
 use fancy_tree::char_set::CharSet;
 
 /// The automaton's first steps take about as long as so many of the runner for each instruction of the code.
@@ -114,27 +113,25 @@ fn is_told_little(prefilter: &Prefilter) -> bool {
     !prefilter.scans_for_opening() && starts_differ
 }
 
-/// Whether a scan finds many places at which a match may begin.
-fn begins_often(prefilter: &Prefilter) -> bool {
-    is_told_little(prefilter) || begin_sometimes(prefilter)
-}
-
 /// Whether the runner makes few attempts, and short ones.
 pub fn has_short_attempts(code: &Code) -> bool {
-    !begins_often(&code.prefilter) && !opens_wide(code) && !has_wide_loop(code)
+    !is_told_little(&code.prefilter) && !opens_wide(code) && !has_wide_loop(code)
 }
 
 /// From how many steps on that a search may take it is worth the automaton's. `None` where none is: where a table tells words apart, the
-/// runner tries those alone that may match, and where attempts are short, those few that a scan for a text or for a byte past ASCII finds.
+/// runner tries those alone that may match, and where attempts are short, those few that a scan for a text, for what matches go on to or for
+/// a byte past ASCII finds.
 pub fn least_steps(code: &Code, is_short: bool) -> Option<usize> {
     let prefilter = &code.prefilter;
     if tells_words(prefilter) {
         return None;
     }
-    if begins_often(prefilter) {
+    if is_told_little(prefilter) {
         return Some(LEAST_STEPS);
     }
-    if is_short && (prefilter.has_text() || !starts_in_ascii(prefilter)) {
+    if is_short
+        && (prefilter.has_text() || prefilter.region.is_some() || !starts_in_ascii(prefilter))
+    {
         return None;
     }
     Some(LEAST_STEPS_SCANNED)
@@ -234,4 +231,47 @@ pub fn leaps(prefilter: &Prefilter, haystack: &[u8], first: usize, end: usize) -
         place = target.saturating_add(1);
     }
     passed > least
+}
+
+/// So many bytes of a text are looked at for how often matches may begin.
+const SEEN: usize = 2048;
+
+/// A scan for first bytes that passes over fewer bytes in the mean seldom goes far.
+const FAR: usize = 24;
+
+/// The same of a scan for what matches open with: it leaves out places at which the table would take more than a step.
+const FAR_SCANNED: usize = 12;
+
+/// Whether matches may begin so often in a text that a scan for the next place would seldom go far, from `first` up to `end`, byte offsets: as
+/// far as is looked at it. Starts of the text and of lines are always found by a scan.
+///
+/// ```text
+/// begin_often(&prefilter, b"10:00:59.317 [INFO] 5 files", 0, 27)    // true for `\d+`
+/// begin_often(&prefilter, b"a text that has no number at all", 0, 32)    // false for it
+/// ```
+#[inline(never)]
+pub fn begin_often(prefilter: &Prefilter, haystack: &[u8], first: usize, end: usize) -> bool
+    requires inside { end ≤ length haystack.now }
+{
+    if matches!(prefilter.anchor, Anchor::AtStart | Anchor::AtLines(_)) || end < first {
+        return false;
+    }
+    let is_scanned = prefilter.scans_for_opening();
+    let far = if is_scanned { FAR_SCANNED } else { FAR };
+    let seen = end.min(first.saturating_add(SEEN));
+    let places = ((seen - first) / far).max(1);
+    let mut place = first;
+    for _ in 0..places {
+        let mut region = None;
+        place = if is_scanned {
+            next_opening(prefilter, haystack, seen, place, seen, &mut region)
+        } else {
+            next_candidate(prefilter, haystack, seen, place, seen)
+        };
+        if place >= seen {
+            return false;
+        }
+        place += 1;
+    }
+    true
 }

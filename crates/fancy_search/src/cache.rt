@@ -105,11 +105,12 @@ impl RememberedSteps {
     ghost use Rattle.fancy_search.specs.StepsOf.{AreStepsOf};
     ghost use Rattle.fancy_search.specs.KeptTables.{keeps_no_table};
 
-    /// None is remembered yet.
-    pub(crate) fn new(alloc: Global) -> Result<Box<RememberedSteps>, AllocError>
+    /// None is remembered yet. `walks` says that searches walk on by them where no way waits.
+    pub(crate) fn new(alloc: Global, walks: bool) -> Result<Box<RememberedSteps>, AllocError>
         ensures { (code : Code) → IfOk result (λ steps. AreStepsOf code steps.value) }
     {
         let mut cells = Cells::new(alloc);
+        cells.walks = walks;
         cells.clear(0);
         let steps = RememberedSteps {
             cells,

@@ -48,8 +48,8 @@ use crate::step_pool::StepPool;
 use crate::straight::{StraightEnd, is_item_or_run, past_straight, past_turns, straight_end};
 use fancy_automaton::search as automaton;
 use fancy_automaton::worth::{
-    LEAST_WORTH, MOST_TRIED, MOST_WORTH, QUICK_BYTES, SEARCH, TABLE, WORTH, has_short_attempts,
-    leaps, least_steps, may_lead, saved_steps,
+    LEAST_WORTH, MOST_TRIED, MOST_WORTH, QUICK_BYTES, SEARCH, TABLE, WORTH, begin_often,
+    has_short_attempts, leaps, least_steps, may_lead, saved_steps,
 };
 use fancy_bytes::lacking::{KnownBytes, RequiredBytes};
 use fancy_code::code::Code;
@@ -468,7 +468,7 @@ impl Program {
             None => request,
         };
         let first = request.effective_start();
-        let mut steps = self.steps_for(kept, None, haystack.len(), first)?;
+        let mut steps = self.steps_for(kept, None, haystack, first)?;
         let found = self.follow(haystack, request, &mut kept, &mut steps, work);
         self.pool.leave(steps);
         found
@@ -530,7 +530,7 @@ impl Program {
             None => request,
         };
         let first = request.effective_start();
-        let mut steps = self.steps_for(Kept::Nothing, None, haystack.len(), first)?;
+        let mut steps = self.steps_for(Kept::Nothing, None, haystack, first)?;
         let options = self.options.for_search();
         let cells = &mut steps.cells;
         let Ok(found) = automaton::is_match(&self.code, haystack, request, options, cells, work)
@@ -699,7 +699,7 @@ impl Program {
         }
         cache.served = self.without_groups();
         let first = request.effective_start();
-        let mut steps = self.steps_for(*kept, cache.steps.take(), haystack.len(), first)?;
+        let mut steps = self.steps_for(*kept, cache.steps.take(), haystack, first)?;
         let found = self.follow(haystack, request, kept, &mut steps, work);
         cache.steps = Some(steps);
         found
@@ -779,7 +779,7 @@ impl Program {
         ensures apart { cache.new.machine ≡ cache.old.machine }
     {
         let first = request.effective_start();
-        let mut steps = self.steps_for(*kept, cache.steps.take(), haystack.len(), first)?;
+        let mut steps = self.steps_for(*kept, cache.steps.take(), haystack, first)?;
         cache.served = Engine::Runner;
         let led = self.run_led(haystack, request, &mut steps, &mut cache.runner, work)?;
         cache.steps = Some(steps);
@@ -1176,7 +1176,7 @@ impl Program {
         &self,
         kept: Kept,
         held: Option<Box<RememberedSteps>>,
-        bytes: usize,
+        haystack: &[u8],
         first: usize,
     ) -> std::result::Result<Box<RememberedSteps>, AllocError>
         requires kept { is_steps kept ≡ true → HoldsSteps self.now held }
@@ -1187,9 +1187,12 @@ impl Program {
         }
         let mut steps = match self.pool.take() {
             Some(left) => left,
-            None => RememberedSteps::new(*self.text.allocator())?,
+            None => {
+                let walks = begin_often(&self.code.prefilter, haystack, first, haystack.len());
+                RememberedSteps::new(*self.text.allocator(), walks)?
+            }
         };
-        steps.go_on(bytes, first);
+        steps.go_on(haystack.len(), first);
         Ok(steps)
     }
 
@@ -1278,7 +1281,8 @@ impl Program {
     }
 
     /// Whether a search begins with a look for what the pattern requires: where it seeks, and for an easy pattern also where all of
-    /// the haystack is searched.
+    /// the haystack is searched. But a search for an easy pattern that finds nothing may end as soon as that look does: by the text that each
+    /// match begins with where the haystack is short, and else since a match starts at its start alone.
     #[inline]
     fn looks_for_required(&self, asked: &Asked<'_>) -> bool
         ensures seeks { (program_options self.now).seek ≡ true → result ≡ true }
@@ -1531,8 +1535,8 @@ impl Program {
         ensures refused { IfErr result (RefusesEasy self.now) }
     {
         let from_position = anchored_at(*asked.request, position);
-        let (bytes, first) = (asked.haystack.len(), from_position.effective_start());
-        let mut steps = self.steps_for(notes.kept, notes.steps.take(), bytes, first)?;
+        let first = from_position.effective_start();
+        let mut steps = self.steps_for(notes.kept, notes.steps.take(), asked.haystack, first)?;
         cache.served = Engine::WithoutGroups(self.code.groups);
         let kept = &mut notes.kept;
         let found = self.follow(asked.haystack, from_position, kept, &mut steps, work);

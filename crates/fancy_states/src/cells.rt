@@ -99,6 +99,8 @@ pub struct Cells {
     pub spare: Trail,
     /// The place where the last search stopped reading, a byte offset.
     pub reached: usize,
+    /// Whether searches walk on by the table where no way waits. Else a scan finds the next place there.
+    pub walks: bool,
     /// Where the last step was computed.
     scratch: Scratch,
 }
@@ -122,6 +124,7 @@ impl Cells {
             room: ROOM,
             spare: Trail::new(alloc),
             reached: 0,
+            walks: false,
             scratch: Scratch::new(alloc),
         }
     }
@@ -223,14 +226,15 @@ fn origins(alloc: Global, next: &[Way]) -> Result<Vec<usize>, AllocError>
     Ok(came)
 }
 
-/// Puts a step from a row on what is seen among the steps, with the rows that it leads to.
+/// Puts a step from a row on what is seen among the steps, with the rows that it leads to. `walks` says that searches walk on where no
+/// way waits.
 fn computed(
-    alloc: Global,
     code: &Code,
     rows: &mut Rows,
     row: usize,
     sight: Sight,
     step: Step,
+    walks: bool,
 ) -> Result<Cell, AllocError>
     requires row { row < length rows.old.lists.items }
     requires step { IsStepOn code.now (ways_at rows.old.lists.items row) sight step }
@@ -241,8 +245,9 @@ fn computed(
         c.next c.begun c.came.items c.matched c.origin) }
     ensures ways { IfOk result (λ c. length c.came.items ≡ length step.next.items) }
 {
+    let alloc = *step.next.allocator();
     let came = origins(alloc, &step.next)?;
-    let origin = origin_of(&came, step.matched, rows.lists[row].len(), &code.prefilter);
+    let origin = origin_of(&came, step.matched, rows.lists[row].len(), walks);
     let target = target_of(alloc, rows, code.start, &step.next)?;
     Ok(Cell {
         row,
@@ -574,7 +579,7 @@ pub fn step_at(
     let mut scratch = mem::replace(&mut cells.scratch, Scratch::new(cells.alloc));
     let step = step_of(code, cells, row, sight, &mut scratch, work)?;
     cells.scratch = scratch;
-    let cell = computed(cells.alloc, code, &mut cells.rows, row, sight, step)?;
+    let cell = computed(code, &mut cells.rows, row, sight, step, cells.walks)?;
     let k = cells.cells.len();
     cells.held = cells.held.saturating_add(cell.came.len());
     cells.cells.push(cell)?;
