@@ -1291,21 +1291,17 @@ impl Program {
         if self.options.seek {
             return true;
         }
-        let (haystack, request) = (asked.haystack, asked.request);
+        let (bytes, request) = (asked.haystack.len(), asked.request);
         if !self.easy || request.effective_start() > 0 {
             return false;
         }
-        !request.anchored && request.range_end == haystack.len() && !self.ends_soon(haystack)
-    }
-
-    /// Whether a search for an easy pattern that finds nothing ends as soon as a look for a byte does: by the text that each match
-    /// begins with where the haystack is short, and where it is not since a match starts at its start alone.
-    fn ends_soon(&self, haystack: &[u8]) -> bool {
-        if haystack.len() < SHORT_HAYSTACK {
-            self.code.prefilter.has_text()
+        let prefilter = &self.code.prefilter;
+        let ends_soon = if bytes < SHORT_HAYSTACK {
+            prefilter.has_text()
         } else {
-            self.code.prefilter.only_at_start()
-        }
+            prefilter.only_at_start()
+        };
+        !request.anchored && request.range_end == bytes && !ends_soon
     }
 
     /// The match that an attempt at one position finds, from the effective start of the request on: `\G` may hold at the effective
@@ -1580,6 +1576,27 @@ impl Program {
         Some(self.match_to(asked.haystack, request.range_end, position, past))
     }
 
+    /// The search of an anchored request for an easy pattern, as far as steps tell it that the automaton remembers.
+    fn recall(
+        &self,
+        haystack: &[u8],
+        request: Request,
+        steps: &RememberedSteps,
+    ) -> Option<Option<Found>>
+        requires followable { IsFollowable self.now haystack.now request }
+        requires whole { EndsNoGroup (instrs_of self.now.code) }
+        requires anchored { request.anchored ≡ true }
+        requires kept { AreStepsOf self.now.code steps.now }
+        ensures { IfSome result (λ m. (on : Bool)
+            → answer_with (replicate (program_groups self.now) None) m
+            ≡ search (asked_of self.now haystack.now request on)) }
+    {
+        let options = self.options.for_search();
+        let cells = &steps.cells;
+        let found = automaton::find_told(&self.code, haystack, request, options, cells)?;
+        Some(found)
+    }
+
     /// The match that an attempt at one position finds, as [`Program::attempt_in_list`], where steps tell it that the automaton
     /// remembers in the notes. `None` elsewhere. Nothing is counted, and no limit is met.
     pub fn find_told(
@@ -1602,10 +1619,9 @@ impl Program {
         if !self.can_follow(asked.text) {
             return None;
         }
-        let cells = &notes.kept_steps()?.cells;
-        let request = anchored_at(*asked.request, position);
-        let options = self.options.for_search();
-        let found = automaton::find_told(&self.code, asked.haystack, request, options, cells)?;
+        let steps = notes.kept_steps()?;
+        let from_position = anchored_at(*asked.request, position);
+        let found = self.recall(asked.haystack, from_position, steps)?;
         cache.served = Engine::WithoutGroups(self.code.groups);
         Some(found)
     }
