@@ -174,7 +174,8 @@ fn seek(attempt: &Attempt, cells: &Cells, from: Sole, idle: usize, any: bool) ->
     }
 }
 
-/// The next place at which a match may begin, if no way waits and nothing was found, and first bytes tell it.
+/// The next place at which a match may begin, if no way waits and nothing was found, and first bytes tell it. `scans` says that it is left to
+/// a scan for more than these.
 #[inline(always)]
 fn skip(attempt: &Attempt, cells: &Cells, from: Sole, idle: usize, scans: bool) -> Option<Sole>
     requires idle { IsIdle cells.now.rows.lists.items idle }

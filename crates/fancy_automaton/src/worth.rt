@@ -113,17 +113,18 @@ fn is_told_little(prefilter: &Prefilter) -> bool {
     !prefilter.scans_for_opening() && starts_differ
 }
 
-/// Whether the runner makes few attempts, and short ones.
+/// Whether the attempts of the runner are short, as far as the code tells, and a scan tells it where to make them. How many a text has is
+/// not told by that.
 pub fn has_short_attempts(code: &Code) -> bool {
     !is_told_little(&code.prefilter) && !opens_wide(code) && !has_wide_loop(code)
 }
 
-/// From how many steps on that a search may take it is worth the automaton's. `None` where none is: where a table tells words apart, the
-/// runner tries those alone that may match, and where attempts are short, those few that a scan for a text, for what matches go on to or for
-/// a byte past ASCII finds.
-pub fn least_steps(code: &Code, is_short: bool) -> Option<usize> {
+/// From how many steps on that a search may take it is worth the automaton's. `None` where none is: code whose items are read directly
+/// needs no engine, where a table tells words apart, the runner tries those alone that may match, and where attempts are short, those few
+/// that a scan for a text, for what matches go on to or for a byte past ASCII finds.
+pub fn least_steps(code: &Code, is_short: bool, directly: bool) -> Option<usize> {
     let prefilter = &code.prefilter;
-    if tells_words(prefilter) {
+    if directly || tells_words(prefilter) {
         return None;
     }
     if is_told_little(prefilter) {
@@ -237,13 +238,13 @@ pub fn leaps(prefilter: &Prefilter, haystack: &[u8], first: usize, end: usize) -
 const SEEN: usize = 2048;
 
 /// A scan for first bytes that passes over fewer bytes in the mean seldom goes far.
-const FAR: usize = 24;
+const MEAN_GAP: usize = 24;
 
 /// The same of a scan for what matches open with: it leaves out places at which the table would take more than a step.
-const FAR_SCANNED: usize = 12;
+const MEAN_GAP_SCANNED: usize = 12;
 
-/// Whether matches may begin so often in a text that a scan for the next place would seldom go far, from `first` up to `end`, byte offsets: as
-/// far as is looked at it. Starts of the text and of lines are always found by a scan.
+/// Whether matches may begin so often in a text that a scan for the next place would seldom go far, from `first` up to `end`, byte offsets.
+/// The first bytes of it are looked at. Starts of the text and of lines are always found by a scan.
 ///
 /// ```text
 /// begin_often(&prefilter, b"10:00:59.317 [INFO] 5 files", 0, 27)    // true for `\d+`
@@ -257,12 +258,16 @@ pub fn begin_often(prefilter: &Prefilter, haystack: &[u8], first: usize, end: us
         return false;
     }
     let is_scanned = prefilter.scans_for_opening();
-    let far = if is_scanned { FAR_SCANNED } else { FAR };
+    let gap = if is_scanned {
+        MEAN_GAP_SCANNED
+    } else {
+        MEAN_GAP
+    };
     let seen = end.min(first.saturating_add(SEEN));
-    let places = ((seen - first) / far).max(1);
+    let places = ((seen - first) / gap).max(1);
     let mut place = first;
+    let mut region = None;
     for _ in 0..places {
-        let mut region = None;
         place = if is_scanned {
             next_opening(prefilter, haystack, seen, place, seen, &mut region)
         } else {

@@ -104,7 +104,7 @@ pub struct Program {
     ungrouped: bool,
     /// From how many steps on that a search may take it is worth those of the automaton, if it ever is.
     least_steps: Option<usize>,
-    /// Whether the runner makes few attempts, and short ones.
+    /// Whether the runner makes short attempts, where a scan tells it to.
     is_short: bool,
     /// The bytes that every haystack with a match has.
     required: RequiredBytes,
@@ -254,13 +254,9 @@ impl Program {
         let plain = is_plain(&code);
         let ungrouped = ends_no_group(&code);
         let is_short = easy && has_short_attempts(&code);
-        let least_steps = if is_item_or_run(&code)
-            || straight.is_some() && code.prefilter.scans_for_opening()
-        {
-            None
-        } else {
-            least_steps(&code, is_short)
-        };
+        let directly = is_item_or_run(&code)
+            || straight.is_some() && code.prefilter.scans_for_opening();
+        let least_steps = least_steps(&code, is_short, directly);
         let required = RequiredBytes::new(alloc, &tree, options.meaning())?;
         let prices = prices_of(alloc, &code, easy)?;
         let text = String::from_str(alloc, pattern)?;
@@ -1170,8 +1166,8 @@ impl Program {
         }
     }
 
-    /// Steps of the automaton for searches of a haystack of so many bytes, of which the first begins at `first`, a byte offset: those that
-    /// are held, where they are kept, else those that a search left, and else new ones.
+    /// Steps of the automaton for searches of a haystack, of which the first begins at `first`, a byte offset: those that are held, where
+    /// they are kept, else those that a search left, and else new ones, by which searches walk on where matches may begin often there.
     fn steps_for(
         &self,
         kept: Kept,
