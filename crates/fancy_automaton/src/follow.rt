@@ -41,7 +41,7 @@ fn next_place(attempt: &Attempt, from: usize) -> usize
 
 /// The same by all that tells where matches may begin. `region` is kept from call to call, as `next_opening` keeps it.
 #[inline(never)]
-fn next_opened(attempt: &Attempt, from: usize, region: &mut Option<usize>) -> usize
+pub(crate) fn next_opened(attempt: &Attempt, from: usize, region: &mut Option<usize>) -> usize
     requires ordered { from ≤ attempt.now.last + 1 }
     requires inside { attempt.now.last ≤ length attempt.now.haystack.now }
     ensures { IsNextPlace attempt.now from result }

@@ -1,6 +1,6 @@
 //! Searches by the automaton: the match that the runner finds, without its groups.
 
-ghost use Rattle.std.specs.Prelude.{◌≡◌, ◌+◌, ◌-◌, ◌*◌, ◌≤◌, ℕ, Bool, None, if◌then◌else◌, true, false, IfOk, IfErr, IfSome, is_some, length, option_map};
+ghost use Rattle.std.specs.Prelude.{◌≡◌, ◌+◌, ◌-◌, ◌*◌, ◌≤◌, ℕ, Bool, List, None, IfNone, if◌then◌else◌, true, false, IfOk, IfErr, IfSome, is_some, length, option_map};
 ghost use Rattle.fancy_tree.specs.Pattern.{Pattern};
 ghost use Rattle.fancy_input.specs.Requests.{effective_start};
 ghost use Rattle.fancy_code.specs.Code.{instrs_of};
@@ -17,10 +17,12 @@ ghost use Rattle.fancy_states.specs.Counts.{AddsSteps};
 ghost use Rattle.fancy_states.specs.Trail.{match_from};
 ghost use Rattle.fancy_automaton.specs.Decided.{BeginsFrom, IsAnsweredFrom, IsGoal, attempt_goal, search_goal};
 ghost use Rattle.fancy_automaton.specs.Sole.{IsSole, Reaches};
+ghost use Rattle.fancy_automaton.specs.Places.{IsNextPlace};
+ghost use Rattle.fancy_automaton.specs.Opened.{IsOpened, IsOpenedFor};
 
 use crate::anchored::{span_at, span_told};
 use crate::earliest::has_match;
-use crate::follow::{follow, follow_any, next_start};
+use crate::follow::{follow, follow_any, next_opened, next_start};
 use crate::front::Front;
 use crate::sole::Sole;
 use crate::told::is_wide_at;
@@ -186,6 +188,43 @@ fn first_told(attempt: &Attempt, cells: &mut Cells) -> Result<Candidate, AllocEr
     })
 }
 
+/// Where the leftmost match within the bounds begins and ends that is preferred there, if there is one, from the first place on at which
+/// one may begin.
+#[inline(always)]
+fn find_from(
+    attempt: &Attempt,
+    place: usize,
+    region: &mut Option<usize>,
+    cells: &mut Cells,
+    work: &mut Work,
+) -> Result<Option<Span>, AllocError>
+    requires followed { IsFollowed attempt.now }
+    requires next { IsNextPlace attempt.now attempt.now.base place }
+    requires within { place ≤ attempt.now.last }
+    requires kept { HoldsFor cells.old attempt.now.code.now }
+    ensures answer { IfOk result (IsGoal attempt.now (search_goal attempt.now)) }
+    ensures kept { HoldsFor cells.new attempt.now.code.now }
+    ensures counts { AddsSteps
+        (code_len attempt.now.code.now * (attempt.now.last + 1 - attempt.now.base))
+        work.old work.new }
+{
+    let origin = origin(attempt.code, cells)?;
+    let from = Sole::new(attempt, cells, origin, place);
+    let to = walk(attempt, cells, from);
+    if to.is_over(cells) {
+        cells.reached = to.stand.place;
+        return Ok(span_from(to.start, to.end));
+    }
+    if to.stand.place >= attempt.last
+        && let Some(found) = told_end(attempt, cells, to)
+    {
+        cells.reached = to.stand.place;
+        return Ok(found);
+    }
+    let found = trace(attempt, cells, to, region, work)?;
+    Ok(found)
+}
+
 /// Where the leftmost match within the bounds begins and ends that is preferred there, if there is one.
 #[inline(always)]
 fn find_span(
@@ -211,21 +250,7 @@ fn find_span(
         cells.reached = place;
         return Ok(None);
     }
-    let origin = origin(attempt.code, cells)?;
-    let from = Sole::new(attempt, cells, origin, place);
-    let to = walk(attempt, cells, from);
-    if to.is_over(cells) {
-        cells.reached = to.stand.place;
-        return Ok(span_from(to.start, to.end));
-    }
-    if to.stand.place >= attempt.last
-        && let Some(found) = told_end(attempt, cells, to)
-    {
-        cells.reached = to.stand.place;
-        return Ok(found);
-    }
-    let found = trace(attempt, cells, to, &mut region, work)?;
-    Ok(found)
+    find_from(attempt, place, &mut region, cells, work)
 }
 
 /// Where the match begins and ends that is asked for: at the first position alone, or at the leftmost one that has a match.
@@ -311,6 +336,90 @@ pub fn find(
         step_limit: None,
     };
     let found = span_in(&attempt, request.anchored, cells, work)?;
+    Ok(found_by(found))
+}
+
+/// A search that is begun: a match may begin at a place, and none begins before it.
+#[derive(Clone, Copy)]
+pub struct Opened<'a> {
+    attempt: Attempt<'a>,
+    place: usize,
+    // kept from scan to scan
+    region: Option<usize>,
+}
+
+/// Begins what [`find`] does for a request that is not anchored: scans for the first place at which a match may begin, which takes no step
+/// and no memory. `None` where there is none.
+#[inline(always)]
+pub fn open<'a>(
+    code: &'a Code,
+    haystack: &'a [u8],
+    request: Request,
+    options: SearchOptions,
+) -> Option<Opened<'a>>
+    requires inside { request.range_end ≤ length haystack.now }
+    requires unanchored { request.anchored ≡ false }
+    requires plain { ArePlain (instrs_of code.now) }
+    requires reads { KeepsPlaces haystack.now code.now.meaning options.on_boundaries }
+    ensures none { IfNone result ((p : Pattern) (on : Bool) → IsCodeOf p code.now
+        → search (query_of p code.now (unfiltered options) haystack.now request on) ≡ None) }
+    ensures begins { IfSome result (λ _. ¬ NoneMayStart code.now.prefilter.starts haystack.now
+        request.range_end (effective_start request) (request.range_end + 1)) }
+    ensures opened { IfSome result IsOpened }
+    ensures asked { IfSome result
+        (λ o. IsOpenedFor o code.now haystack.now request options) }
+{
+    let first = request.effective_start();
+    if first > request.range_end {
+        return None;
+    }
+    let attempt = Attempt {
+        code,
+        haystack,
+        base: first,
+        last: request.range_end,
+        on_boundaries: options.on_boundaries,
+        suppressed: options.suppressed_ends(request),
+        step_limit: None,
+    };
+    let mut region = None;
+    let place = next_opened(&attempt, first, &mut region);
+    if place > attempt.last {
+        return None;
+    }
+    Some(Opened {
+        attempt,
+        place,
+        region,
+    })
+}
+
+/// What [`find`] finds for the request that a search was begun for. Steps are remembered and counted as they are there.
+///
+/// # Errors
+///
+/// `SearchRefusal::Memory` where memory runs out, and no other.
+#[inline(always)]
+pub fn find_opened(
+    opened: &Opened<'_>,
+    cells: &mut Cells,
+    work: &mut Work,
+) -> Result<Option<Found>, SearchRefusal>
+    requires opened { IsOpened opened.now }
+    requires kept { IsBounded cells.old }
+    requires all { IsFor cells.old opened.now.attempt.code.now }
+    ensures answer { IfOk result (λ found. (code : Code) (haystack : List ℕ) (request : Request)
+        (options : SearchOptions) → IsOpenedFor opened.now code haystack request options
+        → (p : Pattern) (on : Bool) → IsCodeOf p code
+        → IsFoundAs code found (search (query_of p code (unfiltered options) haystack request on))) }
+    ensures kept { IsBounded cells.new }
+    ensures all { IsFor cells.new opened.now.attempt.code.now }
+    ensures counts { AddsSteps (code_len opened.now.attempt.code.now
+        * (opened.now.attempt.last + 1 - opened.now.attempt.base)) work.old work.new }
+    ensures refused { IfErr result (λ e. e ≡ SearchRefusal.Memory) }
+{
+    let mut region = opened.region;
+    let found = find_from(&opened.attempt, opened.place, &mut region, cells, work)?;
     Ok(found_by(found))
 }
 

@@ -27,9 +27,10 @@ use Rattle.fancy_runner.specs.declared.search.Searched.{Searched}
 use Rattle.fancy_tree.specs.Pattern.{Pattern}
 use Rattle.fancy_meaning.specs.declared.options.SearchOptions.{SearchOptions}
 use Rattle.fancy_search.specs.Options.{search_options}
-use Rattle.fancy_search.specs.Programs.{asked_of, program_is_easy}
+use Rattle.fancy_search.specs.Programs.{program_groups, asked_of, program_is_easy}
 use Rattle.fancy_search.specs.declared.program.Program.{Program}
 use Rattle.fancy_search.proofs.ProgramSizeLemmas.{parts_of_easy}
+use Rattle.fancy_states.specs.Search.{IsFoundAs, groups_of}
 use Rattle.fancy_search.proofs.SearchedLemmas.{known, known_tests}
 
 -- easy code answers the same at a position wherever the search begins, and wherever `\G` holds
@@ -82,6 +83,20 @@ pub tells_some : (r : Program) (haystack : List ℕ) (request : Request) (on fou
     → ((p : Pattern) → IsCodeOf p r.code → found ≡ is_some (search (query_of p r.code (unfiltered options) haystack request on))) → found ≡ is_some (search (asked_of r haystack request on))
 tells_some r haystack request on found options easy same tells =
     without_filters r haystack request on easy (λ (q : Query). found ≡ is_some (search q)) (known_tests _ _ r.compiled (λ compiled. rw (r.meant, same) at (tells _ compiled.coded)))
+
+-- what the code of an easy program finds the program does
+pub tells_found : (r : Program) (haystack : List ℕ) (request : Request) (on : Bool) (m : Option Found) (options : SearchOptions) → program_is_easy r ≡ true → options ≡ search_options r.options
+    → ((p : Pattern) → IsCodeOf p r.code → IsFoundAs r.code m (search (query_of p r.code (unfiltered options) haystack request on)))
+    → answer_with (groups_of (program_groups r) (search (asked_of r haystack request on))) m ≡ search (asked_of r haystack request on)
+tells_found r haystack request on m options easy same tells =
+    without_filters r haystack request on easy (λ (q : Query). answer_with (groups_of r.code.groups (search q)) m ≡ search q)
+    (known _ _ r.compiled (λ compiled. rw (r.meant, same) at (tells _ compiled.coded).same))
+
+-- and where it finds nothing, nor does the program
+pub tells_none : (r : Program) (haystack : List ℕ) (request : Request) (on : Bool) (options : SearchOptions) → program_is_easy r ≡ true → options ≡ search_options r.options
+    → ((p : Pattern) → IsCodeOf p r.code → search (query_of p r.code (unfiltered options) haystack request on) ≡ None) → search (asked_of r haystack request on) ≡ None
+tells_none r haystack request on options easy same tells =
+    without_filters r haystack request on easy (λ (q : Query). search q ≡ None) (known _ _ r.compiled (λ compiled. rw (r.meant, same) at (tells _ compiled.coded)))
 
 -- what a search came to where it found nothing
 pub past_answered : (q : Query) (groups : List (Option Span)) (s : Searched) → IsAnsweredBy q groups s → s.found ≡ None → answer_past q s.reached ≡ search q

@@ -215,6 +215,12 @@ fn end_of(found: Option<Found>, request: Request) -> usize {
     }
 }
 
+/// Whether a request is for a short text.
+#[inline(always)]
+fn is_short_text(request: &Request) -> bool {
+    request.range_end.saturating_sub(request.effective_start()) < SHORT_HAYSTACK
+}
+
 impl Program {
     ghost use Rattle.fancy_search.specs.SearchCounts.{RefusesEasy, AllowsQuery, IsOutOfSteps, AllowsAllSteps, tried_by, is_hopeless, IfFound, IsHardProgram, RefusesQuery, RefusesAttempt, AllowsAttempt, HasRoomFor, HeedsStepLimit, step_bound};
     ghost use Rattle.fancy_search.specs.Programs.{program_pattern, program_options, program_stack_limit, program_groups, program_names, program_length, program_is_easy, asked_of, query_in};
@@ -401,6 +407,7 @@ impl Program {
     }
 
     /// The same for an easy pattern.
+    #[inline(always)]
     fn find_easily(&self, asked: &Asked<'_>, work: &mut Work) -> Result<Option<Found>>
         requires easy { program_is_easy self.now ≡ true }
         requires hopeful { is_hopeless self.now (query_in self.now asked.now) ≡ false }
@@ -411,7 +418,7 @@ impl Program {
         ensures unlimited { AllowsAllSteps self.now asked.now.request.now work.old
             → IsOutOfSteps result → ⊥ }
     {
-        if self.is_followed(asked, &Kept::Nothing) && self.allows_all_steps(*asked.request, work) {
+        if self.is_followed_alone(asked) && self.allows_all_steps(*asked.request, work) {
             return self.find_followed(asked.haystack, *asked.request, work);
         }
         self.find_unfollowed(asked, work)
@@ -436,8 +443,9 @@ impl Program {
         self.run(asked.haystack, asked.request, &mut table, &mut runner, work)
     }
 
-    /// The same where the automaton may serve: by the runner as long as its patience lasts, and then by the automaton. An early match
-    /// does not pay for the steps that the automaton computes first.
+    /// The same where the automaton may serve: by the runner as long as its patience lasts, and then by the automaton, from the first place
+    /// on at which a match may begin. An early match does not pay for the steps that the automaton computes first, and where a scan finds no
+    /// place, none are taken that were left.
     #[inline(never)]
     fn find_followed(
         &self,
@@ -457,17 +465,23 @@ impl Program {
         ensures bounded { steps_of work.new ≤ steps_of work.old + step_bound self.now request }
         ensures refused { IfErr result (λ e. e ≡ Error.Memory) }
     {
-        let mut kept = Kept::Nothing;
         let request = match self.begin_alone(haystack, request, work)? {
             Some(Begun::Ended(found)) => return Ok(found),
             Some(Begun::Left(rest)) => rest,
             None => request,
         };
+        let options = self.options.for_search();
+        let Some(opened) = automaton::open(&self.code, haystack, request, options) else {
+            return Ok(None);
+        };
         let first = request.effective_start();
-        let mut steps = self.steps_for(kept, None, haystack, first)?;
-        let found = self.follow(haystack, request, &mut kept, &mut steps, work);
+        let mut steps = self.steps_for(Kept::Nothing, None, haystack, first)?;
+        let cells = &mut steps.cells;
+        let Ok(found) = automaton::find_opened(&opened, cells, work) else {
+            return Err(Error::Memory);
+        };
         self.pool.leave(steps);
-        found
+        Ok(found)
     }
 
     /// The same for a hard pattern.
@@ -501,10 +515,13 @@ impl Program {
             let found = self.find_hard(asked, work)?;
             return Ok(found.is_some());
         }
-        if self.allows_all_steps(*asked.request, work) && self.is_followed(asked, &Kept::Nothing) {
+        if !is_short_text(asked.request)
+            && self.is_followed(asked, &Kept::Nothing)
+            && self.allows_all_steps(*asked.request, work)
+        {
             return self.is_match_followed(asked.haystack, *asked.request, work);
         }
-        let found = self.find_unfollowed(asked, work)?;
+        let found = self.find_easily(asked, work)?;
         Ok(found.is_some())
     }
 
@@ -968,8 +985,8 @@ impl Program {
         let begun = self.begin(haystack, request, patience, &mut cache, work)?;
         if let Begun::Ended(found) = &begun {
             let taken = work.steps() - before;
-            if !patience.is_quick(taken, end_of(*found, request)) {
-                self.pool.spend(taken);
+            if is_short_text(&request) || !patience.is_quick(taken, end_of(*found, request)) {
+                self.pool.spend(taken.saturating_add(SEARCH));
             }
         }
         Ok(Some(begun))
@@ -1117,7 +1134,7 @@ impl Program {
     }
 
     /// Whether the automaton serves a search, or leads it where groups are asked: where it follows the code, the search is not anchored, and
-    /// it is worth its steps.
+    /// it is worth its steps. A first search is, if it may take so many steps and the runner does not leap.
     #[inline(always)]
     fn is_followed(&self, asked: &Asked<'_>, kept: &Kept) -> bool
         ensures plain { result ≡ true → ArePlain (instrs_of self.now.code) }
@@ -1135,19 +1152,33 @@ impl Program {
         if asked.request.anchored || !kept.may_be_followed() {
             return false;
         }
-        if matches!(kept, Kept::Nothing) && !self.is_worth_beginning(asked, least) {
-            return false;
+        if matches!(kept, Kept::Nothing) {
+            // a search alone, or the first of a list
+            let (first, end) = (asked.request.effective_start(), asked.request.range_end);
+            let most_steps = self.code.len().saturating_mul(end.saturating_sub(first));
+            if most_steps < least || leaps(&self.code.prefilter, asked.haystack, first, end) {
+                return false;
+            }
         }
         self.can_follow(asked.text)
     }
 
-    /// Whether a search alone, or the first of a list, may be worth the automaton's steps: it may take `least` steps or more, and the
-    /// runner does not leap.
+    /// The same of a search alone, whose groups are not asked. In a short text what a search takes besides its steps decides: the automaton's
+    /// lie ready, and the runner asks for memory anew. But straight code is read.
     #[inline(always)]
-    fn is_worth_beginning(&self, asked: &Asked<'_>, least: usize) -> bool {
-        let (first, end) = (asked.request.effective_start(), asked.request.range_end);
-        let most_steps = self.code.len().saturating_mul(end.saturating_sub(first));
-        most_steps >= least && !leaps(&self.code.prefilter, asked.haystack, first, end)
+    fn is_followed_alone(&self, asked: &Asked<'_>) -> bool
+        ensures plain { result ≡ true → ArePlain (instrs_of self.now.code) }
+        ensures places { result ≡ true → KeepsPlaces asked.now.haystack.now self.now.code.meaning
+            (search_options self.now.options).on_boundaries }
+        ensures unanchored { result ≡ true → asked.now.request.now.anchored ≡ false }
+    {
+        if !is_short_text(asked.request) {
+            return self.is_followed(asked, &Kept::Nothing);
+        }
+        if asked.request.anchored || self.straight.is_some() {
+            return false;
+        }
+        self.can_follow(asked.text)
     }
 
     /// Whether the limit of steps allows all that an easy search takes at most, besides what was done before.

@@ -50,15 +50,10 @@ impl StepPool {
         }
     }
 
-    /// Whether some are left.
-    fn is_left(&self) -> bool {
-        self.left.load() == PRESENT
-    }
-
     /// For how many of its steps the runner serves before the automaton does, where it takes about as long as `computed` of them to compute
     /// the automaton's first steps. `None` where steps are left, and where so many were spent before.
     pub(crate) fn worth(&self, computed: usize) -> Option<usize> {
-        if self.is_left() {
+        if self.left.load() == PRESENT {
             return None;
         }
         let spent = self.spent.load(Ordering::Relaxed);

@@ -8,8 +8,8 @@ pub find_followed-requires-clause-followable : goal.find_followed-requires-claus
 find_followed-requires-clause-followable c = record {
   inside = c.args.asked.now.inside;
   easy = c.requires.easy;
-  plain = c.if-is_followed.ensures.plain refl;
-  places = c.if-is_followed.ensures.places refl;
+  plain = c.if-is_followed_alone.ensures.plain refl;
+  places = c.if-is_followed_alone.ensures.places refl;
 }
 
 pub returns-then-allows_all_steps-clause-served : goal.returns-then-allows_all_steps-clause-served
