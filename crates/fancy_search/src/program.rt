@@ -1134,7 +1134,8 @@ impl Program {
     }
 
     /// Whether the automaton serves a search, or leads it where groups are asked: where it follows the code, the search is not anchored, and
-    /// it is worth its steps. A first search is, if it may take so many steps and the runner does not leap.
+    /// it is worth its steps. A first search is, if it may take so many steps and the runner does not leap. In a short text the automaton
+    /// may lead any search: it does so where that was seen to save steps (`saved_steps`).
     #[inline(always)]
     fn is_followed(&self, asked: &Asked<'_>, kept: &Kept) -> bool
         ensures plain { result ≡ true → ArePlain (instrs_of self.now.code) }
@@ -1146,7 +1147,8 @@ impl Program {
         let Some(least) = self.least_steps else {
             return false;
         };
-        if self.is_led(asked) && !may_lead(&self.code.prefilter) {
+        let may_lead = is_short_text(asked.request) || may_lead(&self.code.prefilter);
+        if self.is_led(asked) && !may_lead {
             return false;
         }
         if asked.request.anchored || !kept.may_be_followed() {
