@@ -9,6 +9,6 @@ pub mod SoleLemmas
 pub mod DecidedLemmas
 pub mod WalkLemmas
 pub mod ToldLemmas
-pub mod OpenedLemmas
+pub mod AskedLemmas
 pub mod EndLemmas
 pub mod EarliestLemmas

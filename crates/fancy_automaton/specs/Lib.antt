@@ -4,4 +4,4 @@ pub mod Sole
 pub mod Decided
 pub mod Places
 pub mod Earliest
-pub mod Opened
+pub mod Asked

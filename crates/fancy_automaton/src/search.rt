@@ -1,6 +1,6 @@
 //! Searches by the automaton: the match that the runner finds, without its groups.
 
-ghost use Rattle.std.specs.Prelude.{◌≡◌, ◌+◌, ◌-◌, ◌*◌, ◌≤◌, ℕ, Bool, List, None, IfNone, if◌then◌else◌, true, false, IfOk, IfErr, IfSome, is_some, length, option_map};
+ghost use Rattle.std.specs.Prelude.{◌≡◌, ◌+◌, ◌-◌, ◌*◌, ◌<◌, ◌≤◌, ℕ, Bool, List, None, IfNone, if◌then◌else◌, true, false, IfOk, IfErr, IfSome, is_some, length, option_map};
 ghost use Rattle.fancy_tree.specs.Pattern.{Pattern};
 ghost use Rattle.fancy_input.specs.Requests.{effective_start};
 ghost use Rattle.fancy_code.specs.Code.{instrs_of};
@@ -18,7 +18,7 @@ ghost use Rattle.fancy_states.specs.Trail.{match_from};
 ghost use Rattle.fancy_automaton.specs.Decided.{BeginsFrom, IsAnsweredFrom, IsGoal, attempt_goal, search_goal};
 ghost use Rattle.fancy_automaton.specs.Sole.{IsSole, Reaches};
 ghost use Rattle.fancy_automaton.specs.Places.{IsNextPlace};
-ghost use Rattle.fancy_automaton.specs.Opened.{IsOpened, IsOpenedFor};
+ghost use Rattle.fancy_automaton.specs.Asked.{IsAsked, IsOpened, IsOpenedFor};
 
 use crate::anchored::{span_at, span_told};
 use crate::earliest::has_match;
@@ -282,6 +282,36 @@ fn span_in(
     }
 }
 
+/// The attempt that a request asks for. `None` where its range ends before it starts: then nothing is found.
+#[inline(always)]
+fn attempt_for<'a>(
+    code: &'a Code,
+    haystack: &'a [u8],
+    request: Request,
+    options: SearchOptions,
+) -> Option<Attempt<'a>>
+    requires inside { request.range_end ≤ length haystack.now }
+    requires plain { ArePlain (instrs_of code.now) }
+    requires reads { KeepsPlaces haystack.now code.now.meaning options.on_boundaries }
+    ensures none { IfNone result (request.range_end < effective_start request) }
+    ensures asked { IfSome result (λ a. IsAsked a code.now haystack.now request options) }
+    ensures followed { IfSome result IsFollowed }
+{
+    let first = request.effective_start();
+    if first > request.range_end {
+        return None;
+    }
+    Some(Attempt {
+        code,
+        haystack,
+        base: first,
+        last: request.range_end,
+        on_boundaries: options.on_boundaries,
+        suppressed: options.suppressed_ends(request),
+        step_limit: None,
+    })
+}
+
 /// Searches a haystack for the pattern of plain code: the match that the runner's search finds, in byte offsets, without its groups. It
 /// reads from boundary to boundary (`KeepsPlaces`).
 ///
@@ -322,18 +352,8 @@ pub fn find(
     ensures units { units_of work.new ≡ units_of work.old }
     ensures refused { IfErr result (λ e. e ≡ SearchRefusal.Memory) }
 {
-    let first = request.effective_start();
-    if first > request.range_end {
+    let Some(attempt) = attempt_for(code, haystack, request, options) else {
         return Ok(None);
-    }
-    let attempt = Attempt {
-        code,
-        haystack,
-        base: first,
-        last: request.range_end,
-        on_boundaries: options.on_boundaries,
-        suppressed: options.suppressed_ends(request),
-        step_limit: None,
     };
     let found = span_in(&attempt, request.anchored, cells, work)?;
     Ok(found_by(found))
@@ -369,21 +389,11 @@ pub fn open<'a>(
     ensures asked { IfSome result
         (λ o. IsOpenedFor o code.now haystack.now request options) }
 {
-    let first = request.effective_start();
-    if first > request.range_end {
+    let Some(attempt) = attempt_for(code, haystack, request, options) else {
         return None;
-    }
-    let attempt = Attempt {
-        code,
-        haystack,
-        base: first,
-        last: request.range_end,
-        on_boundaries: options.on_boundaries,
-        suppressed: options.suppressed_ends(request),
-        step_limit: None,
     };
     let mut region = None;
-    let place = next_opened(&attempt, first, &mut region);
+    let place = next_opened(&attempt, attempt.base, &mut region);
     if place > attempt.last {
         return None;
     }
@@ -457,18 +467,8 @@ pub fn is_match(
     ensures units { units_of work.new ≡ units_of work.old }
     ensures refused { IfErr result (λ e. e ≡ SearchRefusal.Memory) }
 {
-    let first = request.effective_start();
-    if first > request.range_end {
+    let Some(attempt) = attempt_for(code, haystack, request, options) else {
         return Ok(false);
-    }
-    let attempt = Attempt {
-        code,
-        haystack,
-        base: first,
-        last: request.range_end,
-        on_boundaries: options.on_boundaries,
-        suppressed: options.suppressed_ends(request),
-        step_limit: None,
     };
     let found = has_match(&attempt, cells, work)?;
     Ok(found)
@@ -502,20 +502,11 @@ pub fn find_candidate(
     ensures refused { IfErr result (λ e. e ≡ SearchRefusal.Memory) }
 {
     let first = request.effective_start();
-    if first > request.range_end {
+    let Some(attempt) = attempt_for(code, haystack, request, options) else {
         return Ok(Candidate {
             told: first,
             passed: 0,
         });
-    }
-    let attempt = Attempt {
-        code,
-        haystack,
-        base: first,
-        last: request.range_end,
-        on_boundaries: options.on_boundaries,
-        suppressed: options.suppressed_ends(request),
-        step_limit: None,
     };
     let candidate = first_told(&attempt, cells)?;
     Ok(Candidate {
@@ -543,18 +534,8 @@ pub fn find_told(
         → IsFoundAs code.now found
         (search (query_of p code.now (unfiltered options) haystack.now request on))) }
 {
-    let first = request.effective_start();
-    if first > request.range_end {
+    let Some(attempt) = attempt_for(code, haystack, request, options) else {
         return None;
-    }
-    let attempt = Attempt {
-        code,
-        haystack,
-        base: first,
-        last: request.range_end,
-        on_boundaries: options.on_boundaries,
-        suppressed: options.suppressed_ends(request),
-        step_limit: None,
     };
     let found = span_told(&attempt, cells)?;
     Some(found_by(found))

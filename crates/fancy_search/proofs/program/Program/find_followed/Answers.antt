@@ -19,12 +19,12 @@ pub find_opened-requires-clause-all : goal.find_opened-requires-clause-all
 find_opened-requires-clause-all c =
     let kept : AreStepsOf c.args.self.now.code c.deref_mut.result.now = rw c.deref_mut.ensures.value c.in_ok-steps.ensures in
     let cells = c.deref_mut.result.now.cells in
-    subst (IsFor cells) (sym c.in-Some.ensures.asked.of_code) (recalls cells c.args.self.now.code kept.true_of)
+    subst (IsFor cells) (sym c.in-Some.ensures.asked.asked.of_code) (recalls cells c.args.self.now.code kept.true_of)
 
 pub leave-requires : goal.leave-requires
 leave-requires c =
     let cells = c.find_opened.new.cells in
-    let all : IsFor cells c.args.self.now.code = subst (IsFor cells) c.in-Some.ensures.asked.of_code c.find_opened.ensures.all in
+    let all : IsFor cells c.args.self.now.code = subst (IsFor cells) c.in-Some.ensures.asked.asked.of_code c.find_opened.ensures.all in
     (c.args.self.now.pooled _).1 (record { true_of = remembers cells c.args.self.now.code all; within = c.find_opened.ensures.kept })
 
 pub returns-in_default-clause-answer : goal.returns-in_default-clause-answer
