@@ -2,12 +2,11 @@
 
 ghost use Rattle.std.specs.Prelude.{◌≡◌, ◌+◌, ◌-◌, ◌*◌, ◌<◌, ◌≤◌, None, IfOk, IfSome};
 ghost use Rattle.fancy_code.specs.CodeLength.{code_len};
-ghost use Rattle.fancy_input.specs.Work.{steps_of};
-ghost use Rattle.fancy_prefilter.specs.Seen.{NoneMayStart};
 ghost use Rattle.fancy_states.specs.Cells.{HoldsFor};
 ghost use Rattle.fancy_states.specs.Counts.{AddsSteps};
 ghost use Rattle.fancy_states.specs.Search.{IsFollowed};
 ghost use Rattle.fancy_automaton.specs.Earliest.{FindsNone, FindsSome, HasMatch, IsWaiting};
+ghost use Rattle.fancy_automaton.specs.Places.{IsNextPlace};
 ghost use Rattle.fancy_automaton.specs.Sole.{IsAmid};
 
 use crate::anchored::{is_idle, make_place};
@@ -176,31 +175,25 @@ fn standing(
     })
 }
 
-/// Whether there is a match within the bounds.
+/// Whether there is a match within the bounds, from the first place on at which one may begin.
 #[inline(always)]
 pub(crate) fn has_match(
     attempt: &Attempt,
+    place: usize,
+    region: &mut Option<usize>,
     cells: &mut Cells,
     work: &mut Work,
 ) -> Result<bool, AllocError>
-    requires ordered { attempt.now.base ≤ attempt.now.last }
     requires followed { IsFollowed attempt.now }
+    requires next { IsNextPlace attempt.now attempt.now.base place }
+    requires within { place ≤ attempt.now.last }
     requires kept { HoldsFor cells.old attempt.now.code.now }
     ensures answer { IfOk result (HasMatch attempt.now) }
     ensures kept { HoldsFor cells.new attempt.now.code.now }
     ensures counts { AddsSteps
         (code_len attempt.now.code.now * (attempt.now.last + 1 - attempt.now.base))
         work.old work.new }
-    ensures idle { NoneMayStart attempt.now.code.now.prefilter.starts attempt.now.haystack.now
-        attempt.now.last attempt.now.base (attempt.now.last + 1)
-        → steps_of work.new ≡ steps_of work.old }
 {
-    let mut region = None;
-    let place = next_start(attempt, attempt.base, &mut region);
-    if place > attempt.last {
-        cells.reached = place;
-        return Ok(false);
-    }
     let rows = origin(attempt.code, cells)?;
     let mut at = Sole::new(attempt, cells, rows, place).stand;
     'places: loop {
@@ -213,7 +206,7 @@ pub(crate) fn has_match(
             cells.reached = to.place;
             return Ok(true);
         };
-        let Some(next) = standing(attempt, cells, waiting, &mut region) else {
+        let Some(next) = standing(attempt, cells, waiting, region) else {
             cells.reached = attempt.last;
             return Ok(false);
         };

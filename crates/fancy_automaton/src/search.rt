@@ -433,44 +433,32 @@ pub fn find_opened(
     Ok(found_by(found))
 }
 
-/// Whether [`find`] finds anything for a request that is not anchored. It ends where the first match does. Steps are remembered and
-/// counted as they are there.
+/// Whether [`find_opened`] finds anything. It ends where the first match does. Steps are remembered and counted as they are there.
 ///
 /// # Errors
 ///
 /// `SearchRefusal::Memory` where memory runs out, and no other.
 #[inline(always)]
-pub fn is_match(
-    code: &Code,
-    haystack: &[u8],
-    request: Request,
-    options: SearchOptions,
+pub fn is_match_opened(
+    opened: &Opened<'_>,
     cells: &mut Cells,
     work: &mut Work,
 ) -> Result<bool, SearchRefusal>
-    requires inside { request.range_end ≤ length haystack.now }
-    requires unanchored { request.anchored ≡ false }
-    requires plain { ArePlain (instrs_of code.now) }
-    requires reads { KeepsPlaces haystack.now code.now.meaning options.on_boundaries }
+    requires opened { IsOpened opened.now }
     requires kept { IsBounded cells.old }
-    requires all { IsFor cells.old code.now }
-    ensures answer { IfOk result (λ b. (p : Pattern) (on : Bool) → IsCodeOf p code.now
-        → b ≡ is_some (search (query_of p code.now (unfiltered options) haystack.now request on))) }
+    requires all { IsFor cells.old opened.now.attempt.code.now }
+    ensures answer { IfOk result (λ b. (code : Code) (haystack : List ℕ) (request : Request)
+        (options : SearchOptions) → IsOpenedFor opened.now code haystack request options
+        → (p : Pattern) (on : Bool) → IsCodeOf p code
+        → b ≡ is_some (search (query_of p code (unfiltered options) haystack request on))) }
     ensures kept { IsBounded cells.new }
-    ensures all { IsFor cells.new code.now }
-    ensures steps { steps_of work.old ≤ steps_of work.new }
-    ensures bounded { steps_of work.new ≤ steps_of work.old + most_steps code.now request }
-    ensures idle { NoneMayStart code.now.prefilter.starts haystack.now request.range_end
-        (effective_start request) (request.range_end + 1)
-        → steps_of work.new ≡ steps_of work.old }
-    ensures returns { returns_of work.new ≡ returns_of work.old }
-    ensures units { units_of work.new ≡ units_of work.old }
+    ensures all { IsFor cells.new opened.now.attempt.code.now }
+    ensures counts { AddsSteps (code_len opened.now.attempt.code.now
+        * (opened.now.attempt.last + 1 - opened.now.attempt.base)) work.old work.new }
     ensures refused { IfErr result (λ e. e ≡ SearchRefusal.Memory) }
 {
-    let Some(attempt) = attempt_for(code, haystack, request, options) else {
-        return Ok(false);
-    };
-    let found = has_match(&attempt, cells, work)?;
+    let mut region = opened.region;
+    let found = has_match(&opened.attempt, opened.place, &mut region, cells, work)?;
     Ok(found)
 }
 

@@ -515,13 +515,10 @@ impl Program {
             let found = self.find_hard(asked, work)?;
             return Ok(found.is_some());
         }
-        if !is_short_text(asked.request)
-            && self.is_followed(asked, &Kept::Nothing)
-            && self.allows_all_steps(*asked.request, work)
-        {
+        if self.is_followed_alone(asked) && self.allows_all_steps(*asked.request, work) {
             return self.is_match_followed(asked.haystack, *asked.request, work);
         }
-        let found = self.find_easily(asked, work)?;
+        let found = self.find_unfollowed(asked, work)?;
         Ok(found.is_some())
     }
 
@@ -542,12 +539,14 @@ impl Program {
             Some(Begun::Left(rest)) => rest,
             None => request,
         };
+        let options = self.options.for_search();
+        let Some(opened) = automaton::open(&self.code, haystack, request, options) else {
+            return Ok(false);
+        };
         let first = request.effective_start();
         let mut steps = self.steps_for(Kept::Nothing, None, haystack, first)?;
-        let options = self.options.for_search();
         let cells = &mut steps.cells;
-        let Ok(found) = automaton::is_match(&self.code, haystack, request, options, cells, work)
-        else {
+        let Ok(found) = automaton::is_match_opened(&opened, cells, work) else {
             return Err(Error::Memory);
         };
         self.pool.leave(steps);

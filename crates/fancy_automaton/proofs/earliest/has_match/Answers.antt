@@ -4,22 +4,14 @@ use Rattle.fancy_states.specs.Trail.{match_from}
 use Rattle.fancy_states.proofs.CountLemmas.{counts_more, counts_none, counts_up}
 use Rattle.fancy_automaton.specs.Sole.{IsAmid, IsAt}
 use Rattle.fancy_automaton.proofs.GoingLemmas.{going_first, going_idle}
-use Rattle.fancy_automaton.proofs.EarliestLemmas.{none_match}
 use Rattle.fancy_automaton.proofs.earliest.has_match.Goals as goal
 use Rattle.fancy_automaton.proofs.earliest.has_match.Goals.{then-is_wide_at, else-is_wide_at}
-
-pub returns-then-place-attempt-clause-answer : goal.returns-then-place-attempt-clause-answer
-returns-then-place-attempt-clause-answer c =
-    let a = c.args.attempt.now in
-    let place = c.next_start-place.ensures in
-    none_match a [] [] c.next_start-place.result c.if-place-attempt.true place.ends
-    (going_idle a [] [] None a.base c.next_start-place.result place.forth place.ends refl place.passed (going_first a [] [] None refl refl refl))
 
 pub new-requires-clause-going : goal.new-requires-clause-going
 new-requires-clause-going c =
     let a = c.args.attempt.now in
-    let place = c.next_start-place.ensures in
-    going_idle a [] [] None a.base c.next_start-place.result place.forth place.ends refl place.passed (going_first a [] [] None refl refl refl)
+    let next = c.requires.next in
+    going_idle a [] [] None a.base c.args.place next.forth next.ends refl next.passed (going_first a [] [] None refl refl refl)
 
 pub places-init : goal.places-init
 places-init c =
@@ -31,7 +23,7 @@ places-init c =
         replicate (length sole.0) s.start,
         subst (λ (end : Option ℕ). IsAt c.args.attempt.now c.origin.new.cells s.stand sole.0 (replicate (length sole.0) s.start) (match_from s.start end)) c.new.ensures.nothing sole.1,
       );
-      passed = omega (arith, c.next_start-place.ensures.forth, c.new.ensures.place);
+      passed = omega (arith, c.requires.next.forth, c.new.ensures.place);
       counts = counts_none _;
     }
 

@@ -15,6 +15,6 @@ pub is_match_followed-requires-clause-followable : goal.is_match_followed-requir
 is_match_followed-requires-clause-followable c = record {
   inside = c.args.asked.now.inside;
   easy = sym c.args.self.now.decided ∙ c.if-not-self.false;
-  plain = c.if-is_followed.ensures.plain refl;
-  places = c.if-is_followed.ensures.places refl;
+  plain = c.if-is_followed_alone.ensures.plain refl;
+  places = c.if-is_followed_alone.ensures.places refl;
 }
