@@ -363,8 +363,9 @@ pub fn find(
 #[derive(Clone, Copy)]
 pub struct Opened<'a> {
     attempt: Attempt<'a>,
+    // that place, a byte offset
     place: usize,
-    // kept from scan to scan
+    // what the scan came to that matches go on to, as `next_opening` keeps it
     region: Option<usize>,
 }
 

@@ -1,6 +1,6 @@
 //! For which patterns the automaton is worth its steps.
 
-ghost use Rattle.std.specs.Prelude.{◌≤◌, length};
+ghost use Rattle.std.specs.Prelude.{◌≡◌, ◌≤◌, None, false, length, true};
 
 use fancy_code::code::{Code, Instr};
 use fancy_code::found::Found;
@@ -20,7 +20,7 @@ pub const LEAST_WORTH: usize = 512;
 /// They take about as long as so many of the runner at most: of long code few instructions are met.
 pub const MOST_WORTH: usize = 2048;
 
-/// A search of a list by the runner takes about as long as so many more of its steps.
+/// A search by the runner, alone or of a list, takes about as long as so many more of its steps.
 pub const SEARCH: usize = 8;
 
 /// A search that takes fewer steps at most is served by the runner alone.
@@ -122,7 +122,9 @@ pub fn has_short_attempts(code: &Code) -> bool {
 /// From how many steps on that a search may take it is worth the automaton's. `None` where none is: code whose items are read directly
 /// needs no engine, where a table tells words apart, the runner tries those alone that may match, and where attempts are short, those few
 /// that a scan for a text, for what matches go on to or for a byte past ASCII finds.
-pub fn least_steps(code: &Code, is_short: bool, directly: bool) -> Option<usize> {
+pub fn least_steps(code: &Code, is_short: bool, directly: bool) -> Option<usize>
+    ensures direct { directly ≡ true → result ≡ None }
+{
     let prefilter = &code.prefilter;
     if directly || tells_words(prefilter) {
         return None;
@@ -253,6 +255,7 @@ const MEAN_GAP_SCANNED: usize = 12;
 #[inline(never)]
 pub fn begin_often(prefilter: &Prefilter, haystack: &[u8], first: usize, end: usize) -> bool
     requires inside { end ≤ length haystack.now }
+    ensures start { prefilter.now.anchor ≡ Anchor.AtStart → result ≡ false }
 {
     if matches!(prefilter.anchor, Anchor::AtStart | Anchor::AtLines(_)) || end < first {
         return false;

@@ -407,7 +407,6 @@ impl Program {
     }
 
     /// The same for an easy pattern.
-    #[inline(always)]
     fn find_easily(&self, asked: &Asked<'_>, work: &mut Work) -> Result<Option<Found>>
         requires easy { program_is_easy self.now ≡ true }
         requires hopeful { is_hopeless self.now (query_in self.now asked.now) ≡ false }
@@ -1146,8 +1145,7 @@ impl Program {
         let Some(least) = self.least_steps else {
             return false;
         };
-        let may_lead = is_short_text(asked.request) || may_lead(&self.code.prefilter);
-        if self.is_led(asked) && !may_lead {
+        if self.is_led(asked) && !is_short_text(asked.request) && !may_lead(&self.code.prefilter) {
             return false;
         }
         if asked.request.anchored || !kept.may_be_followed() {
