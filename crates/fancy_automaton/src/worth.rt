@@ -239,11 +239,8 @@ pub fn leaps(prefilter: &Prefilter, haystack: &[u8], first: usize, end: usize) -
 /// So many bytes of a text are looked at for how often matches may begin.
 const SEEN: usize = 2048;
 
-/// A scan for first bytes that passes over fewer bytes in the mean seldom goes far.
-const MEAN_GAP: usize = 24;
-
-/// The same of a scan for what matches open with: it leaves out places at which the table would take more than a step.
-const MEAN_GAP_SCANNED: usize = 12;
+/// A scan that passes over fewer bytes in the mean seldom goes far.
+const MEAN_GAP: usize = 12;
 
 /// Whether matches may begin so often in a text that a scan for the next place would seldom go far, from `first` up to `end`, byte offsets.
 /// The first bytes of it are looked at. Starts of the text and of lines are always found by a scan.
@@ -261,13 +258,8 @@ pub fn begin_often(prefilter: &Prefilter, haystack: &[u8], first: usize, end: us
         return false;
     }
     let is_scanned = prefilter.scans_for_opening();
-    let gap = if is_scanned {
-        MEAN_GAP_SCANNED
-    } else {
-        MEAN_GAP
-    };
     let seen = end.min(first.saturating_add(SEEN));
-    let places = ((seen - first) / gap).max(1);
+    let places = ((seen - first) / MEAN_GAP).max(1);
     let mut place = first;
     let mut region = None;
     for _ in 0..places {
