@@ -1,5 +1,5 @@
 -- Steps of a search whose ways that wait all began at one place.
-use Rattle.std.proofs.Common.{◌≡◌, ℕ, zero, suc, ◌+◌, ◌-◌, ◌<◌, ◌≤◌, ◌≢◌, ◌⊎◌, inl, inr, ◌++◌, ◌∷◌, [], Bool, true, List, Option, Some, None, refl, sym, ap, ap₂, ◌∙◌, subst, arith, length, map, replicate, take, length-append, option_map}
+use Rattle.std.proofs.Common.{◌≡◌, ◌&&◌, ℕ, zero, suc, ◌+◌, ◌-◌, ◌<◌, ◌≤◌, ◌≢◌, ◌⊎◌, inl, inr, ◌++◌, ◌∷◌, [], Bool, true, List, Option, Some, None, refl, sym, ap, ap₂, ◌∙◌, subst, arith, length, map, replicate, take, length-append, option_map}
 use Rattle.std.specs.Prelude.{slice_get, slice_index, nat_eq, nat_lt, is_some, IfSome}
 use Rattle.std.specs.List.{list_all}
 use Rattle.std.specs.Option.{option_or}
@@ -19,6 +19,9 @@ use Rattle.fancy_states.specs.declared.cells.Cells.{Cells}
 use Rattle.fancy_automaton.specs.declared.hop.Stand.{Stand}
 use Rattle.fancy_states.specs.declared.origin.Origin.{Origin}
 use Rattle.fancy_states.specs.declared.origin.Origin.TheVariants.{Earlier, Last, Mixed}
+use Rattle.fancy_states.specs.declared.transitions.Entry.{Entry}
+use Rattle.fancy_states.specs.declared.transitions.Entry.TheVariants.{Quiet}
+use Rattle.fancy_states.specs.declared.transitions.Entry.TheVariants as entries
 use Rattle.fancy_states.specs.declared.transitions.Transition.{Transition}
 use Rattle.fancy_states.specs.declared.way.Way.{Way}
 use Rattle.fancy_alphabet.specs.declared.classes.Classes.{Classes}
@@ -36,7 +39,7 @@ use Rattle.fancy_states.specs.declared.trail.Hit.{Hit}
 use Rattle.fancy_states.specs.declared.trail.Visit.{Visit}
 use Rattle.fancy_automaton.proofs.FrontLemmas.{known_found, known_in}
 use Rattle.fancy_states.specs.Steps.{IsStep, at_of, from_of, span_by, start_in}
-use Rattle.fancy_states.specs.Transitions.{IsMatching, IsQuiet, IsTransition}
+use Rattle.fancy_states.specs.Transitions.{IsEntry, IsMatching, IsQuiet, IsTransition}
 use Rattle.fancy_states.specs.Ways.{match_end}
 use Rattle.fancy_states.proofs.CellLemmas.{cell_is, row_here, row_holds, row_ways}
 use Rattle.fancy_automaton.proofs.GoingLemmas.{going_on, going_same, going_step}
@@ -117,6 +120,25 @@ below f n lt = grind (arith, nat_tests)
 
 equal : (f n : ℕ) → nat_eq f n ≡ true → f ≡ n
 equal f n e = grind (arith, nat_tests)
+
+is_below : (f n : ℕ) → f < n → nat_lt f n ≡ true
+is_below f n lt = grind (arith, nat_tests)
+
+-- numbers of which the first are below one are all, where these are all
+pub all_below : (xs : List ℕ) (k n : ℕ) → n ≡ length xs → ((i : ℕ) → i < n → slice_index xs i < k) → list_all (λ f. nat_lt f k) xs ≡ true
+all_below [] k n all low = refl
+all_below (x ∷ xs) k zero all low = absurd (omega (arith, all))
+all_below (x ∷ xs) k (suc n) all low =
+    ap₂ (λ (a b : Bool). a && b) (is_below x k (low 0 (omega arith))) (all_below xs k n (omega (arith, all)) (λ i lt. low (suc i) (omega (arith, lt))))
+
+-- an entry in which nothing is found, whether or not it is told of which ways those come that go on
+pub quiet_entry : (classes : Classes) (cells : List Cell) (row : ℕ) (sight : Sight) (e : Entry) (t : Transition) → (e ≡ Quiet t) ⊎ (e ≡ entries.Mixed t)
+    → IsEntry classes cells row sight e → IsTransition classes cells row sight t × IsQuiet cells t
+quiet_entry classes cells row sight e t is told =
+    elim is [
+      | inl quiet ↦ (let on = subst (IsEntry classes cells row sight) quiet told in (on.0, on.1))
+      | inr mixed ↦ subst (IsEntry classes cells row sight) mixed told
+    ]
 
 -- of which way a match comes that is found
 module _ (a : Attempt) (cells : Cells) (at : Stand) (ways starts : List ℕ) (found : Option Span)

@@ -1,5 +1,5 @@
 -- A search whose ways that wait all began at one place.
-use Rattle.std.specs.Prelude.{◌≡◌, ◌<◌, ◌≤◌, ◌⊎◌, ℕ, true, List, ◌∷◌, ◌++◌, [], Option, None, Some, IfSome, length, nat_lt, replicate, slice_get, slice_index}
+use Rattle.std.specs.Prelude.{◌≡◌, ◌<◌, ◌≤◌, ℕ, true, List, ◌∷◌, ◌++◌, [], Option, None, Some, IfSome, length, nat_lt, replicate, slice_get, slice_index}
 use Rattle.std.specs.List.{list_all}
 use Rattle.fancy_input.specs.declared.span.Span.{Span}
 use Rattle.fancy_code.specs.declared.attempt.Attempt.{Attempt}
@@ -10,7 +10,6 @@ use Rattle.fancy_states.specs.declared.cells.Cells.{Cells}
 use Rattle.fancy_automaton.specs.declared.amid.Amid.{Amid}
 use Rattle.fancy_automaton.specs.declared.sole.Sole.{Sole}
 use Rattle.fancy_automaton.specs.declared.hop.Stand.{Stand}
-use Rattle.fancy_states.specs.declared.origin.Origin.TheVariants.{Last}
 use Rattle.fancy_states.specs.declared.transitions.Transition.{Transition}
 use Rattle.fancy_states.specs.Trail.{match_from}
 use Rattle.fancy_states.specs.Cells.{IsBounded, IsFor, HasRow}
@@ -68,11 +67,6 @@ IsLedOn cells m t = (d : Cell) → slice_get cells.cells.items t.cell ≡ Some d
 abbrev pub KeepsFirst : Cells → Amid → Transition → ℕ → Type 0
 KeepsFirst cells m t led =
     (d : Cell) → slice_get cells.cells.items t.cell ≡ Some d → (led ≤ length d.came.items) × ((i : ℕ) → i < led → slice_index d.came.items i < m.led)
-
--- The ways that a step leads to in which nothing is found began there: none waits, they come from the way that begins there, or from the
--- first ones.
-abbrev pub TellsStart : Cells → ℕ → Amid → Transition → ℕ → Type 0
-TellsStart cells idle m t s = (t.next ≡ idle) ⊎ ((t.origin ≡ Last) × (s ≡ m.stand.place)) ⊎ ((s ≡ m.start) × IsLedOn cells m t)
 
 -- all ways began at one place, and so did the match, if one was found
 abbrev pub IsSole : Attempt → Cells → Sole → Type 0

@@ -1,15 +1,13 @@
 //! Steps of a search whose ways that wait may have begun at several places, up to where they began at one again.
 
-ghost use Rattle.std.specs.Prelude.{◌≡◌, ◌+◌, ◌<◌, None, IfSome, length, nat_lt, true};
+ghost use Rattle.std.specs.Prelude.{◌≡◌, ◌+◌, ◌<◌, ◌≤◌, ℕ, None, Some, IfSome, length, nat_lt, slice_index, true};
 ghost use Rattle.std.specs.List.{list_all};
 ghost use Rattle.fancy_code.specs.declared.attempt.Attempt.{Attempt};
-ghost use Rattle.fancy_states.specs.Cells.{IsIdle};
-ghost use Rattle.fancy_automaton.specs.Sole.{ComeFromFirst, IsLed, IsLedOn, IsSole, KeepsFirst, Reaches, TellsStart};
-ghost use Rattle.fancy_automaton.specs.Told.{IsTold};
+ghost use Rattle.fancy_automaton.specs.Sole.{ComeFromFirst, IsLed, IsLedOn, IsSole, Reaches, stood};
 
 use crate::hop::{Stand, stand_after};
 use crate::sole::Sole;
-use crate::told::{Told, quiet_step, told_at};
+use crate::told::told_at;
 use fancy_code::attempt::Attempt;
 use fancy_states::cells::{Cell, Cells};
 use fancy_states::origin::Origin;
@@ -44,11 +42,20 @@ impl Amid {
     }
 }
 
-/// Whether all numbers are below one.
-fn are_all_below(numbers: &[usize], bound: usize) -> bool
-    ensures { result ≡ list_all (λ f. nat_lt f bound) numbers.now }
+/// How many of the first numbers are below one.
+#[inline(always)]
+fn first_below(numbers: &[usize], bound: usize) -> usize
+    ensures within { result ≤ length numbers.now }
+    ensures below { (i : ℕ) → i < result → slice_index numbers.now i < bound }
+    ensures all { result ≡ length numbers.now
+        → list_all (λ f. nat_lt f bound) numbers.now ≡ true }
 {
-    numbers.iter().all(|number| *number < bound)
+    'numbers: for i in 0..numbers.len() {
+        if numbers[i] >= bound {
+            return i;
+        }
+    }
+    numbers.len()
 }
 
 /// Whether all ways that a step leads to come from the first ways of its row, of which there are so many, and so does the match that it
@@ -56,99 +63,29 @@ fn are_all_below(numbers: &[usize], bound: usize) -> bool
 fn come_from_first(cell: &Cell, led: usize) -> bool
     ensures { result ≡ true → ComeFromFirst led cell.now.came.items cell.now.matched }
 {
-    are_all_below(&cell.came, led) && cell.matched.unwrap_or(0) < led
+    first_below(&cell.came, led) == cell.came.len() && cell.matched.unwrap_or(0) < led
 }
 
-/// Where the ways began that a step leads to, and the match that it finds, if all come from the first ones of its row.
-#[inline(always)]
-fn led_start(cells: &Cells, at: Amid, step: Transition) -> Option<usize>
-    ensures { IfSome result (λ s. (s ≡ at.start) × IsLedOn cells.now at step) }
+/// Where a search stands after a step in which a match is found, up to a place, if all ways come from the first ones, and so does the match.
+fn found_after(cells: &Cells, at: Amid, past: usize, step: Transition) -> Option<Sole>
+    ensures { IfSome result (λ s. IsLedOn cells.now at step
+        × (s ≡ record { stand = stood past step; start = at.start; end = Some at.stand.place })) }
 {
     let cell = cells.cells.get(step.cell as usize)?;
-    if come_from_first(cell, at.led) {
-        Some(at.start)
-    } else {
-        None
+    if !come_from_first(cell, at.led) {
+        return None;
     }
-}
-
-/// Where the ways began that a step leads to in which nothing is found, if that is one place. Where none waits it is any.
-#[inline(always)]
-fn quiet_start(cells: &Cells, at: Amid, step: Transition, idle: usize) -> Option<usize>
-    ensures { IfSome result (TellsStart cells.now idle at step) }
-{
-    if step.next as usize == idle {
-        return Some(at.stand.place);
-    }
-    match step.origin {
-        Origin::Last => Some(at.stand.place),
-        Origin::Earlier => led_start(cells, at, step),
-        Origin::Mixed => None,
-    }
-}
-
-/// Where a search stands after a step that the table tells, if the ways that wait then all began at one place.
-#[inline(always)]
-fn gathered(cells: &Cells, at: Amid, told: Told, idle: usize) -> Option<Sole>
-    requires idle { IsIdle cells.now.rows.lists.items idle }
-    ensures { (a : Attempt) → IsLed a cells.now at
-        → IsTold a cells.now at.stand.begun at.stand.place told.entry.past told.entry.entry.now
-        → IfSome result (Reaches a cells.now (at.stand.place + 1)) }
-{
-    if let Entry::Matching(step) = *told.entry {
-        let start = led_start(cells, at, step)?;
-        return Some(Sole {
-            stand: stand_after(told.past, step),
-            start,
-            end: Some(at.stand.place),
-        });
-    }
-    let step = quiet_step(*told.entry)?;
-    let start = quiet_start(cells, at, step, idle)?;
     Some(Sole {
-        stand: stand_after(told.past, step),
-        start,
-        end: None,
-    })
-}
-
-/// How many of the first ways that a step leads to come from the first ones of its row.
-#[inline(always)]
-fn led_after(cells: &Cells, at: Amid, step: Transition) -> usize
-    ensures { KeepsFirst cells.now at step result }
-{
-    let Some(cell) = cells.cells.get(step.cell as usize) else {
-        return 0;
-    };
-    'ways: for i in 0..cell.came.len() {
-        if cell.came[i] >= at.led {
-            return i;
-        }
-    }
-    cell.came.len()
-}
-
-/// Where a search stands after a step that the table tells, if nothing is found in it.
-#[inline(always)]
-fn stepped(cells: &Cells, at: Amid, told: Told) -> Option<Amid>
-    ensures led { (a : Attempt) → IsLed a cells.now at
-        → IsTold a cells.now at.stand.begun at.stand.place told.entry.past told.entry.entry.now
-        → IfSome result (IsLed a cells.now) }
-    ensures past { IfSome result (λ m. m.stand.place ≡ told.entry.past) }
-{
-    let step = quiet_step(*told.entry)?;
-    Some(Amid {
-        stand: stand_after(told.past, step),
+        stand: stand_after(past, step),
         start: at.start,
-        led: led_after(cells, at, step),
+        end: Some(at.stand.place),
     })
 }
 
 /// The next place at which all ways that wait began at one place again, if the table leads there, and within as many places as a trail
 /// has: those are passed once more with a trail where it does not. So no place is passed many times.
 #[inline(always)]
-pub(crate) fn hunt(attempt: &Attempt, cells: &Cells, from: Amid, idle: usize) -> Option<Sole>
-    requires idle { IsIdle cells.now.rows.lists.items idle }
+pub(crate) fn hunt(attempt: &Attempt, cells: &Cells, from: Amid) -> Option<Sole>
     requires led { IsLed attempt.now cells.now from }
     ensures { IfSome result (Reaches attempt.now cells.now (from.stand.place + 1)) }
 {
@@ -157,10 +94,30 @@ pub(crate) fn hunt(attempt: &Attempt, cells: &Cells, from: Amid, idle: usize) ->
     let mut at = from;
     'places: while at.stand.place < limit {
         let told = told_at(attempt, table, at.stand.opened, at.stand.place, false)?;
-        if let Some(sole) = gathered(cells, at, told, idle) {
-            return Some(sole);
+        let step = match told.entry {
+            Entry::Unknown => return None,
+            Entry::Matching(step) => return found_after(cells, at, told.past, *step),
+            Entry::Quiet(step) | Entry::Mixed(step) => step,
+        };
+        let stand = stand_after(told.past, *step);
+        if matches!(step.origin, Origin::Last) {
+            return Some(Sole {
+                stand,
+                start: at.stand.place,
+                end: None,
+            });
         }
-        at = stepped(cells, at, told)?;
+        let cell = cells.cells.get(step.cell as usize)?;
+        let led = first_below(&cell.came, at.led);
+        let start = at.start;
+        if led == cell.came.len() {
+            return Some(Sole {
+                stand,
+                start,
+                end: None,
+            });
+        }
+        at = Amid { stand, start, led };
     }
     None
 }

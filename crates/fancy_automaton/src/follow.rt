@@ -11,10 +11,10 @@ use crate::amid::{Amid, hunt};
 use crate::hop::{Stand, ahead_of, idle_row, stand_after};
 use crate::sole::Sole;
 use crate::told::{quiet_step, told_at};
+use crate::worth::begin_at_starts;
 use fancy_code::attempt::Attempt;
 use fancy_meaning::options::is_match_boundary;
 use fancy_prefilter::candidates::{next_candidate, next_opening};
-use fancy_prefilter::prefilter::Anchor;
 use fancy_states::cells::Cells;
 use fancy_states::origin::Origin;
 use fancy_states::rows::Target;
@@ -64,10 +64,7 @@ pub(crate) fn next_opened(attempt: &Attempt, from: usize, region: &mut Option<us
 #[inline(always)]
 fn passes_far(attempt: &Attempt) -> bool {
     let prefilter = &attempt.code.prefilter;
-    match prefilter.anchor {
-        Anchor::AtStart | Anchor::AtLines(_) => true,
-        Anchor::Anywhere | Anchor::AtWords(_) => prefilter.scans_for_opening(),
-    }
+    begin_at_starts(prefilter) || prefilter.scans_for_opening()
 }
 
 /// The first place, from one on, at which a match may begin, by all that tells it where that is more than first bytes, and else by the
@@ -205,7 +202,7 @@ fn onward(attempt: &Attempt, cells: &Cells, from: Amid, idle: usize, scans: bool
     requires led { IsLed attempt.now cells.now from }
     ensures { IfSome result (Reaches attempt.now cells.now (from.stand.place + 1)) }
 {
-    let sole = hunt(attempt, cells, from, idle)?;
+    let sole = hunt(attempt, cells, from)?;
     if sole.end.is_some() {
         return Some(sole);
     }

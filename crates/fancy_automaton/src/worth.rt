@@ -157,16 +157,18 @@ fn has_row(prefilter: &Prefilter) -> bool {
     }
 }
 
+/// Whether matches begin only where the text or a line does.
+#[inline(always)]
+pub(crate) fn begin_at_starts(prefilter: &Prefilter) -> bool
+    ensures start { prefilter.now.anchor ≡ Anchor.AtStart → result ≡ true }
+{
+    matches!(prefilter.anchor, Anchor::AtStart | Anchor::AtLines(_))
+}
+
 /// Whether it may pay that the automaton tells the runner where to begin: a scan tells little of where matches begin, they begin not only
 /// where a text or a line does, and no row of sets tells more.
 pub fn may_lead(prefilter: &Prefilter) -> bool {
-    if has_row(prefilter) {
-        return false;
-    }
-    match prefilter.anchor {
-        Anchor::AtStart | Anchor::AtLines(_) => false,
-        Anchor::Anywhere | Anchor::AtWords(_) => is_told_little(prefilter),
-    }
+    !has_row(prefilter) && !begin_at_starts(prefilter) && is_told_little(prefilter)
 }
 
 /// How many of the steps that the runner took for a search the automaton may have saved that tells the runner where to begin: none where
@@ -205,13 +207,13 @@ const TARGETS: usize = 4;
 const LEAP: usize = 64;
 
 /// Whether the runner leaps, from `first` up to `end`, byte offsets: as far as it is looked at what each match goes on to, that tells it to
-/// pass over many bytes where matches may begin by their first ones, and more than it would look at. Where no opening is scanned for, the
-/// automaton goes on by first bytes alone.
+/// pass over many bytes where matches may begin by their first ones, and more than it would look at. The automaton leaps as far where they
+/// begin only where the text or a line does. Elsewhere it goes on by first bytes alone.
 #[inline(never)]
 pub fn leaps(prefilter: &Prefilter, haystack: &[u8], first: usize, end: usize) -> bool
     requires inside { end ≤ length haystack.now }
 {
-    if prefilter.region.is_none() || prefilter.only_at_start() || end < first {
+    if prefilter.region.is_none() || begin_at_starts(prefilter) || end < first {
         return false;
     }
     let seen = end.min(first.saturating_add(AHEAD));
@@ -254,7 +256,7 @@ pub fn begin_often(prefilter: &Prefilter, haystack: &[u8], first: usize, end: us
     requires inside { end ≤ length haystack.now }
     ensures start { prefilter.now.anchor ≡ Anchor.AtStart → result ≡ false }
 {
-    if matches!(prefilter.anchor, Anchor::AtStart | Anchor::AtLines(_)) || end < first {
+    if begin_at_starts(prefilter) || end < first {
         return false;
     }
     let is_scanned = prefilter.scans_for_opening();
