@@ -389,19 +389,24 @@ sole_led a cells s led is nothing all =
     }
 
 -- no way waits at a place, and nothing was found
-pub idle_rows : (a : Attempt) (cells : Cells) (at : Stand) (idle : ℕ) → IsIdle cells.rows.lists.items idle → at.next ≡ idle → IsAmid a cells at
+pub no_ways : (a : Attempt) (cells : Cells) (at : Stand) (ways starts : List ℕ) → ways ≡ [] → IsAt a cells at ways starts None
     → HasRows cells.rows.lists.items at.next at.begun [] a.code.now.start × Going a [] [] None at.place at.place
-idle_rows a cells at idle empty same is =
-    let here = is.2 in
+no_ways a cells at ways starts none here =
     let rows = cells.rows.lists.items in
-    let none : is.0 ≡ [] = sym here.waits.2 ∙ empty here.waits.0 (ap (slice_get rows) (sym same) ∙ here.waits.1) in
-    let nothing : is.1 ≡ [] = no_items is.1 (here.going.even ∙ ap length none) in (
+    let nothing : starts ≡ [] = no_items starts (here.going.even ∙ ap length none) in (
       record {
         waits = subst (HasRow rows at.next) none here.waits;
         opens = subst (λ (ws : List ℕ). HasRow rows at.begun (ws ++ a.code.now.start ∷ [])) none here.opens;
       },
       going_same a _ _ _ _ None None at.place at.place at.place none nothing refl refl here.going,
     )
+
+-- so it is where its row is idle
+pub idle_rows : (a : Attempt) (cells : Cells) (at : Stand) (idle : ℕ) → IsIdle cells.rows.lists.items idle → at.next ≡ idle → IsAmid a cells at
+    → HasRows cells.rows.lists.items at.next at.begun [] a.code.now.start × Going a [] [] None at.place at.place
+idle_rows a cells at idle empty same is =
+    let here = is.2 in
+    no_ways a cells at is.0 is.1 (sym here.waits.2 ∙ empty here.waits.0 (ap (slice_get cells.rows.lists.items) (sym same) ∙ here.waits.1)) here
 
 -- what else is remembered does not matter
 pub sole_kept : (a : Attempt) (cells later : Cells) (s : Sole) → KeepsHolding cells later → later.rows.lists.items ≡ cells.rows.lists.items → later.table.classes ≡ cells.table.classes

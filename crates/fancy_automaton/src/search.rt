@@ -1,6 +1,6 @@
 //! Searches by the automaton: the match that the runner finds, without its groups.
 
-ghost use Rattle.std.specs.Prelude.{◌≡◌, ◌+◌, ◌-◌, ◌*◌, ◌<◌, ◌≤◌, ℕ, Bool, List, None, IfNone, if◌then◌else◌, true, false, IfOk, IfErr, IfSome, is_some, length, option_map};
+ghost use Rattle.std.specs.Prelude.{◌≡◌, ◌+◌, ◌-◌, ◌*◌, ◌<◌, ◌≤◌, ℕ, Bool, List, [], None, IfNone, if◌then◌else◌, true, false, IfOk, IfErr, IfSome, is_some, length, option_map};
 ghost use Rattle.fancy_tree.specs.Pattern.{Pattern};
 ghost use Rattle.fancy_input.specs.Requests.{effective_start};
 ghost use Rattle.fancy_code.specs.Code.{instrs_of};
@@ -10,7 +10,7 @@ ghost use Rattle.fancy_code.specs.Queries.{query_of, unfiltered, most_steps};
 ghost use Rattle.fancy_meaning.specs.Search.{search};
 ghost use Rattle.fancy_prefilter.specs.Seen.{NoneMayStart};
 ghost use Rattle.fancy_input.specs.Work.{steps_of, returns_of, units_of};
-ghost use Rattle.fancy_states.specs.Cells.{IsFor, IsBounded, HoldsFor, row_if};
+ghost use Rattle.fancy_states.specs.Cells.{IsFor, IsBounded, HoldsFor, row_if, ways_at};
 ghost use Rattle.fancy_states.specs.Futures.{ArePlain};
 ghost use Rattle.fancy_states.specs.Search.{BegunIn, IsFoundAs, KeepsPlaces, at_position, ends_in, leftmost_in, IsFollowed};
 ghost use Rattle.fancy_states.specs.Counts.{AddsSteps};
@@ -143,6 +143,46 @@ fn walk(attempt: &Attempt, cells: &Cells, from: Sole) -> Sole
     to
 }
 
+/// A search at the next place at which a match may begin, from where no way waits and nothing was found. `None` where there is none.
+#[inline(always)]
+fn begin_again(
+    attempt: &Attempt,
+    cells: &Cells,
+    at: Sole,
+    region: &mut Option<usize>,
+) -> Option<Sole>
+    requires sole { IsSole attempt.now cells.now at }
+    requires nothing { at.end ≡ None }
+    requires idle { ways_at cells.now.rows.lists.items at.stand.next ≡ [] }
+    ensures sole { IfSome result (IsSole attempt.now cells.now) }
+    ensures forth { IfSome result (λ s. at.stand.place ≤ s.stand.place) }
+    ensures none { IfNone result (IsGoal attempt.now (search_goal attempt.now) None) }
+{
+    let place = next_start(attempt, at.stand.place, region);
+    if place > attempt.last {
+        return None;
+    }
+    Some(Sole::new(attempt, cells, at.stand.rows(), place))
+}
+
+/// Walks, and where no way waits and nothing was found it walks on from the next place at which a match may begin. `None` where there is
+/// none.
+#[inline(always)]
+fn walk_on(attempt: &Attempt, cells: &Cells, from: Sole, region: &mut Option<usize>) -> Option<Sole>
+    requires sole { IsSole attempt.now cells.now from }
+    ensures reaches { IfSome result (Reaches attempt.now cells.now from.stand.place) }
+    ensures none { IfNone result (IsGoal attempt.now (search_goal attempt.now) None) }
+{
+    let mut begun = from.stand.place;
+    let mut at = walk(attempt, cells, from);
+    'places: while at.is_idle(cells) && begun < at.stand.place {
+        let next = begin_again(attempt, cells, at, region)?;
+        begun = next.stand.place;
+        at = walk(attempt, cells, next);
+    }
+    Some(at)
+}
+
 /// The first place at which a match may begin, from where a walk ended: where its ways began, or if none waits and nothing was found, the
 /// next one; past the last place where there is none.
 #[inline(always)]
@@ -210,7 +250,10 @@ fn find_from(
 {
     let origin = origin(attempt.code, cells)?;
     let from = Sole::new(attempt, cells, origin, place);
-    let to = walk(attempt, cells, from);
+    let Some(to) = walk_on(attempt, cells, from, region) else {
+        cells.reached = attempt.last;
+        return Ok(None);
+    };
     if to.is_over(cells) {
         cells.reached = to.stand.place;
         return Ok(span_from(to.start, to.end));

@@ -26,20 +26,20 @@ new-from-requires c =
     }
 
 pub is_over-requires : goal.is_over-requires
-is_over-requires c = row_within c.origin.new.cells.rows.lists.items c.walk-to.result.stand.next _ c.walk-to.ensures.reaches.sole.1.waits
+is_over-requires c = row_within c.origin.new.cells.rows.lists.items c.in-Some.to.stand.next _ c.in-Some.ensures.reaches.sole.1.waits
 
 pub told_end-requires-clause-sole : goal.told_end-requires-clause-sole
-told_end-requires-clause-sole c = c.walk-to.ensures.reaches.sole
+told_end-requires-clause-sole c = c.in-Some.ensures.reaches.sole
 
 pub trace-requires : goal.trace-requires
-trace-requires c = record { sole = c.walk-to.ensures.reaches.sole }
+trace-requires c = record { sole = c.in-Some.ensures.reaches.sole }
 
 pub returns-then-is_over-clause-answer : goal.returns-then-is_over-clause-answer
 returns-then-is_over-clause-answer c deep begun =
     let a = c.args.attempt.now in
     let cells = c.origin.new.cells in
-    let to = c.walk-to.result in
-    let sole = c.walk-to.ensures.reaches.sole in
+    let to = c.in-Some.to in
+    let sole = c.in-Some.ensures.reaches.sole in
     ap (option_map ends_in) c.span_from.ensures
     ∙ going_over a sole.0 _ (match_from to.start to.end) to.stand.place to.stand.place deep
     (sym (row_ways cells.rows.lists.items to.stand.next sole.0 sole.1.waits) ∙ c.is_over.ensures.over c.if-is_over.true)
@@ -54,11 +54,11 @@ returns-then-is_over-clause-kept c = record {
 pub returns-2-clause-counts : goal.returns-2-clause-counts
 returns-2-clause-counts c =
     let a = c.args.attempt.now in
-    counts_from (code_len a.code.now) a.base c.walk-to.result.stand.place (a.last + 1)
-    (omega (arith, c.requires.next.forth, c.new-from.ensures.place, c.walk-to.ensures.reaches.forth)) c.trace.ensures.counts
+    counts_from (code_len a.code.now) a.base c.in-Some.to.stand.place (a.last + 1)
+    (omega (arith, c.requires.next.forth, c.new-from.ensures.place, c.in-Some.ensures.reaches.forth)) c.trace.ensures.counts
 
 pub returns-in_err-found-clause-counts : goal.returns-in_err-found-clause-counts
 returns-in_err-found-clause-counts c =
     let a = c.args.attempt.now in
-    counts_from (code_len a.code.now) a.base c.walk-to.result.stand.place (a.last + 1)
-    (omega (arith, c.requires.next.forth, c.new-from.ensures.place, c.walk-to.ensures.reaches.forth)) c.trace.ensures.counts
+    counts_from (code_len a.code.now) a.base c.in-Some.to.stand.place (a.last + 1)
+    (omega (arith, c.requires.next.forth, c.new-from.ensures.place, c.in-Some.ensures.reaches.forth)) c.trace.ensures.counts
