@@ -37,6 +37,9 @@ const SHORT_ROW: usize = 3;
 /// At how many places they are told where those are too many to be followed.
 const FEWER_PLACES: usize = 3;
 
+/// A set of fewer bytes leaves out most of what stands in texts.
+const NARROW: usize = 64;
+
 /// How many instructions are followed one after another.
 const DEPTH: usize = 48;
 
@@ -328,6 +331,36 @@ fn first_sets(alloc: Global, code: &Code) -> Result<(Vec<ByteSet>, bool), AllocE
     Ok((sets, false))
 }
 
+/// Whether a set past the first leaves out most of what stands in texts.
+fn are_narrow(sets: &[ByteSet]) -> bool {
+    for j in 1..sets.len() {
+        if sets[j].len() < NARROW {
+            return true;
+        }
+    }
+    false
+}
+
+/// The same code, with the bytes that each match opens with, if it starts with one that texts have seldom, and those after it tell more: they
+/// are looked at where that stands.
+fn with_sets(alloc: Global, code: Code) -> Result<Code, AllocError>
+    ensures instrs { IfOk result (λ c. instrs_of c ≡ instrs_of code) }
+    ensures groups { IfOk result (λ c. c.groups ≡ code.groups) }
+    ensures meaning { IfOk result (λ c. c.meaning ≡ code.meaning) }
+    ensures is { IfOk result (λ c. (p : Pattern) → IsCodeOf p code → IsCodeOf p c) }
+{
+    if code.prefilter.has_text() || !code.prefilter.starts_seldom() {
+        return Ok(code);
+    }
+    let sets = sets_at_start(alloc, &code, PLACES)?;
+    if !are_narrow(&sets) {
+        return Ok(code);
+    }
+    let mut code = code;
+    code.prefilter.opening = Opening::Sets(sets);
+    Ok(code)
+}
+
 /// Sets that are told of the first places of a match, made ready for scans.
 fn window_of(alloc: Global, code: &Code, sets: Vec<ByteSet>) -> Result<Option<Window>, AllocError>
     requires { AreForetold sets.items code.now }
@@ -350,7 +383,7 @@ fn with_opening(alloc: Global, code: Code) -> Result<Code, AllocError>
         return Ok(code);
     }
     if !code.prefilter.is_worth_window() {
-        return Ok(code);
+        return with_sets(alloc, code);
     }
     let (sets, is_worth) = first_sets(alloc, &code)?;
     if !is_worth {

@@ -93,6 +93,15 @@ module _ (f : Prefilter) (haystack : List ℕ) (range_end from last : ℕ) where
     none = none;
   }
 
+-- where no match starts before a place, nor there, none starts up to it
+pub none_past : (f : Prefilter) (haystack : List ℕ) (range_end from place : ℕ) → ((k : ℕ) → from ≤ k → k < place → StartsNot f haystack range_end k)
+    → StartsNot f haystack range_end place → (k : ℕ) → from ≤ k → k < place + 1 → StartsNot f haystack range_end k
+none_past f haystack range_end from place before here k low high =
+    elim (cases_lt k place) [
+      | inl lt ↦ before k low lt
+      | inr ge ↦ subst (λ (p : ℕ). StartsNot f haystack range_end p) (omega (arith, ge, high)) here
+    ]
+
 -- past a place where no match starts there is none up to the next line
 pub next_line : (f : Prefilter) (set : ByteFlags) (haystack : List ℕ) (range_end from place next : ℕ) → f.anchor ≡ AtLines set
     → ((k : ℕ) → from ≤ k → k < place → StartsNot f haystack range_end k) → StartsNot f haystack range_end place

@@ -296,6 +296,27 @@ fn next_by_boundaries(
     place
 }
 
+/// What [`next_opening`] answers by first bytes, and where one stands by those after it.
+#[inline(never)]
+fn next_by_sets(
+    prefilter: &Prefilter,
+    haystack: &[u8],
+    range_end: usize,
+    from: usize,
+    last: usize,
+) -> usize
+    requires ordered { from ≤ last + 1 }
+    requires last { last ≤ range_end }
+    requires inside { range_end ≤ length haystack.now }
+    ensures { IsNextOpening prefilter.now haystack.now range_end from last result }
+{
+    let mut place = candidate_from(prefilter, haystack, range_end, from, last);
+    while place <= last && !may_open(&prefilter.opening, haystack, place) {
+        place = candidate_from(prefilter, haystack, range_end, place + 1, last);
+    }
+    place
+}
+
 /// What [`next_opening`] answers by what matches open with. A match that starts at the text's start alone is tried there alone.
 #[inline]
 fn next_by_opening(
@@ -325,6 +346,9 @@ fn next_by_opening(
         }
     }
     match &prefilter.opening {
+        Opening::Sets(_) if prefilter.starts_seldom() => {
+            next_by_sets(prefilter, haystack, range_end, from, last)
+        }
         Opening::Untold | Opening::Sets(_) => candidate_from(
             prefilter, haystack, range_end, from, last,
         ),

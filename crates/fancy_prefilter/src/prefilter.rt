@@ -26,7 +26,7 @@ pub enum Opening {
     Text(Literal),
     /// A byte of each of these sets, at its first places.
     Window(Window),
-    /// The same, where the sets tell too little to be scanned for.
+    /// The same, where the sets tell too little to be scanned for, or each match starts with one byte that texts have seldom.
     Sets(Vec<ByteSet>),
     /// One of these alternatives: there are many, and their first bytes tell them apart.
     Words(Branches),
@@ -169,7 +169,7 @@ impl Prefilter {
     }
 
     /// Whether each match starts with one byte that texts have seldom.
-    fn starts_seldom(&self) -> bool {
+    pub fn starts_seldom(&self) -> bool {
         let Some(scan) = &self.starts else {
             return false;
         };
