@@ -47,6 +47,7 @@ impl Amid {
 fn first_below(numbers: &[usize], bound: usize) -> usize
     ensures within { result ≤ length numbers.now }
     ensures below { (i : ℕ) → i < result → slice_index numbers.now i < bound }
+    ensures ends { result < length numbers.now → bound ≤ slice_index numbers.now result }
     ensures all { result ≡ length numbers.now
         → list_all (λ f. nat_lt f bound) numbers.now ≡ true }
 {

@@ -11,7 +11,6 @@ use crate::amid::{Amid, hunt};
 use crate::hop::{Stand, ahead_of, idle_row, stand_after};
 use crate::sole::Sole;
 use crate::told::{quiet_step, told_at};
-use crate::worth::begin_at_starts;
 use fancy_code::attempt::Attempt;
 use fancy_meaning::options::is_match_boundary;
 use fancy_prefilter::candidates::{next_candidate, next_opening};
@@ -59,14 +58,6 @@ pub(crate) fn next_opened(attempt: &Attempt, from: usize, region: &mut Option<us
     place
 }
 
-/// Whether more than first bytes tells where matches may begin: what they open with is scanned for, or they begin at the start of the
-/// text or of a line alone. Boundaries of words are met too often.
-#[inline(always)]
-fn passes_far(attempt: &Attempt) -> bool {
-    let prefilter = &attempt.code.prefilter;
-    begin_at_starts(prefilter) || prefilter.scans_for_opening()
-}
-
 /// The first place, from one on, at which a match may begin, by all that tells it where that is more than first bytes, and else by the
 /// byte there; past the last one where there is none.
 #[inline(always)]
@@ -75,7 +66,7 @@ pub(crate) fn next_start(attempt: &Attempt, from: usize, region: &mut Option<usi
     requires inside { attempt.now.last ≤ length attempt.now.haystack.now }
     ensures { IsNextPlace attempt.now from result }
 {
-    if passes_far(attempt) {
+    if attempt.code.prefilter.passes_far() {
         next_opened(attempt, from, region)
     } else {
         next_place(attempt, from)
@@ -316,7 +307,7 @@ pub(crate) fn follow(attempt: &Attempt, cells: &Cells, from: Sole) -> Sole
     ensures reaches { Reaches attempt.now cells.now from.stand.place result }
 {
     let idle = idle_row(cells);
-    let scans = !cells.walks && passes_far(attempt);
+    let scans = !cells.walks && attempt.code.prefilter.passes_far();
     let mut at = from;
     'places: while at.end.is_none() {
         at = seek(attempt, cells, at, idle, false);
@@ -344,7 +335,7 @@ pub(crate) fn follow_any(attempt: &Attempt, cells: &Cells, from: Sole) -> Sole
     ensures reaches { Reaches attempt.now cells.now from.stand.place result }
 {
     let idle = idle_row(cells);
-    let scans = !cells.walks && passes_far(attempt);
+    let scans = !cells.walks && attempt.code.prefilter.passes_far();
     let mut at = from;
     'places: while at.end.is_none() {
         at = seek(attempt, cells, at, idle, true);

@@ -1,13 +1,14 @@
 //! For which patterns the automaton is worth its steps.
 
 ghost use Rattle.std.specs.Prelude.{◌≡◌, ◌≤◌, None, false, length, true};
+ghost use Rattle.fancy_prefilter.specs.Prefilters.{is_at_starts};
 
 use fancy_code::code::{Code, Instr};
 use fancy_code::found::Found;
 use fancy_input::input::Request;
 use fancy_prefilter::branches::WIDE;
 use fancy_prefilter::candidates::{next_candidate, next_opening};
-use fancy_prefilter::prefilter::{Anchor, Opening, Prefilter};
+use fancy_prefilter::prefilter::{Opening, Prefilter};
 use fancy_prefilter::reach::Target;
 use fancy_tree::char_set::CharSet;
 
@@ -157,18 +158,10 @@ fn has_row(prefilter: &Prefilter) -> bool {
     }
 }
 
-/// Whether matches begin only where the text or a line does.
-#[inline(always)]
-pub(crate) fn begin_at_starts(prefilter: &Prefilter) -> bool
-    ensures start { prefilter.now.anchor ≡ Anchor.AtStart → result ≡ true }
-{
-    matches!(prefilter.anchor, Anchor::AtStart | Anchor::AtLines(_))
-}
-
 /// Whether it may pay that the automaton tells the runner where to begin: a scan tells little of where matches begin, they begin not only
 /// where a text or a line does, and no row of sets tells more.
 pub fn may_lead(prefilter: &Prefilter) -> bool {
-    !has_row(prefilter) && !begin_at_starts(prefilter) && is_told_little(prefilter)
+    !has_row(prefilter) && !prefilter.only_at_starts() && is_told_little(prefilter)
 }
 
 /// How many of the steps that the runner took for a search the automaton may have saved that tells the runner where to begin: none where
@@ -206,14 +199,14 @@ const TARGETS: usize = 4;
 /// Where the runner would pass over so many bytes for each place at which it stands, it leaps.
 const LEAP: usize = 64;
 
-/// Whether the runner leaps, from `first` up to `end`, byte offsets: as far as it is looked at what each match goes on to, that tells it to
-/// pass over many bytes where matches may begin by their first ones, and more than it would look at. The automaton leaps as far where they
-/// begin only where the text or a line does. Elsewhere it goes on by first bytes alone.
+/// Whether the runner leaps where the automaton would not, from `first` up to `end`, byte offsets: the automaton goes on by first bytes
+/// alone, and as far as it is looked at what each match goes on to, that tells the runner to pass over many bytes where matches may begin by
+/// their first ones, and more than it would look at.
 #[inline(never)]
 pub fn leaps(prefilter: &Prefilter, haystack: &[u8], first: usize, end: usize) -> bool
     requires inside { end ≤ length haystack.now }
 {
-    if prefilter.region.is_none() || begin_at_starts(prefilter) || end < first {
+    if prefilter.region.is_none() || prefilter.passes_far() || end < first {
         return false;
     }
     let seen = end.min(first.saturating_add(AHEAD));
@@ -254,9 +247,9 @@ const MEAN_GAP: usize = 12;
 #[inline(never)]
 pub fn begin_often(prefilter: &Prefilter, haystack: &[u8], first: usize, end: usize) -> bool
     requires inside { end ≤ length haystack.now }
-    ensures start { prefilter.now.anchor ≡ Anchor.AtStart → result ≡ false }
+    ensures start { is_at_starts prefilter.now.anchor ≡ true → result ≡ false }
 {
-    if begin_at_starts(prefilter) || end < first {
+    if prefilter.only_at_starts() || end < first {
         return false;
     }
     let is_scanned = prefilter.scans_for_opening();

@@ -1,7 +1,9 @@
--- What each match opens with.
-use Rattle.std.specs.Prelude.{ℕ, List, Option, Some, None}
+-- What each match opens with, and where it starts.
+use Rattle.std.specs.Prelude.{ℕ, Bool, List, Option, Some, None, false, true}
 use Rattle.fancy_bytes.specs.Sets.{ByteFlags}
 use Rattle.fancy_prefilter.specs.declared.branches.Branches.{Branches}
+use Rattle.fancy_prefilter.specs.declared.prefilter.Anchor.{Anchor}
+use Rattle.fancy_prefilter.specs.declared.prefilter.Anchor.TheVariants.{Anywhere, AtStart, AtLines, AtWords}
 use Rattle.fancy_prefilter.specs.declared.prefilter.Opening.{Opening}
 use Rattle.fancy_prefilter.specs.declared.prefilter.Opening.TheVariants.{Untold, Text, Window, Sets, Words}
 
@@ -28,3 +30,10 @@ branches_in (Text text) = None
 branches_in (Window sets) = None
 branches_in (Sets sets) = None
 branches_in (Words b) = Some b
+
+-- whether each match starts at the text's start or at the start of a line
+abbrev pub is_at_starts : Anchor → Bool
+is_at_starts Anywhere = false
+is_at_starts AtStart = true
+is_at_starts (AtLines feeds) = true
+is_at_starts (AtWords others) = false

@@ -4,7 +4,7 @@ ghost use Rattle.std.specs.Prelude.{◌≡◌, None, false, IfOk, IfSome};
 ghost use Rattle.fancy_tree.specs.Pattern.{pattern_of};
 ghost use Rattle.fancy_bytes.specs.Firsts.{AreStartBytes};
 ghost use Rattle.fancy_bytes.specs.Openings.{opening};
-ghost use Rattle.fancy_prefilter.specs.Prefilters.{branches_in, text_in, window_in};
+ghost use Rattle.fancy_prefilter.specs.Prefilters.{branches_in, is_at_starts, text_in, window_in};
 ghost use Rattle.fancy_prefilter.specs.Regions.{IsReach};
 
 use crate::branches::Branches;
@@ -143,6 +143,14 @@ impl Prefilter {
         matches!(self.anchor, Anchor::AtStart)
     }
 
+    /// Whether each match starts at the text's start or at the start of a line.
+    #[inline(always)]
+    pub fn only_at_starts(&self) -> bool
+        ensures { result ≡ is_at_starts self.now.anchor }
+    {
+        matches!(self.anchor, Anchor::AtStart | Anchor::AtLines(_))
+    }
+
     /// Whether it is told where each match starts.
     pub fn is_anchored(&self) -> bool {
         !matches!(self.anchor, Anchor::Anywhere)
@@ -157,6 +165,13 @@ impl Prefilter {
     #[inline(always)]
     pub fn scans_for_opening(&self) -> bool {
         matches!(self.opening, Opening::Text(_) | Opening::Window(_))
+    }
+
+    /// Whether more than the bytes that matches start with tells where they begin: what they open with is scanned for, or they start at the
+    /// start of the text or of a line alone. Boundaries of words are met too often.
+    #[inline(always)]
+    pub fn passes_far(&self) -> bool {
+        self.only_at_starts() || self.scans_for_opening()
     }
 
     /// Whether it tells little of where matches begin: nothing that they go on to, and nothing that they open with is scanned for, and they
