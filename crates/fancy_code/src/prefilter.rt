@@ -18,7 +18,7 @@ use crate::code::{Code, Instr};
 use fancy_bytes::byte_set::ByteSet;
 use fancy_bytes::items::{Sizes, add_character, add_members, has_size, is_small, size_of};
 use fancy_bytes::rows::{are_apart, are_telling, empty_sets};
-use fancy_prefilter::prefilter::{Anchor, Opening};
+use fancy_prefilter::prefilter::{Anchor, Opening, Prefilter};
 use fancy_prefilter::scan::Scan;
 use fancy_prefilter::window::Window;
 use fancy_tree::char_set::CharSet;
@@ -370,6 +370,12 @@ fn window_of(alloc: Global, code: &Code, sets: Vec<ByteSet>) -> Result<Option<Wi
     Ok(window)
 }
 
+/// Whether a search would scan for a window: not where each match opens with one text, or may start with any byte, or starts with one that
+/// texts seldom have.
+fn is_worth_window(prefilter: &Prefilter) -> bool {
+    !prefilter.has_text() && prefilter.starts.is_some() && !prefilter.starts_seldom()
+}
+
 /// The same code, with the bytes that each match opens with, if they tell something.
 fn with_opening(alloc: Global, code: Code) -> Result<Code, AllocError>
     ensures instrs { IfOk result (λ c. instrs_of c ≡ instrs_of code) }
@@ -382,7 +388,7 @@ fn with_opening(alloc: Global, code: Code) -> Result<Code, AllocError>
         code.prefilter.opening = Opening::Words(branches);
         return Ok(code);
     }
-    if !code.prefilter.is_worth_window() {
+    if !is_worth_window(&code.prefilter) {
         return with_sets(alloc, code);
     }
     let (sets, is_worth) = first_sets(alloc, &code)?;
@@ -397,11 +403,23 @@ fn with_opening(alloc: Global, code: Code) -> Result<Code, AllocError>
     Ok(code)
 }
 
+/// Whether a search would go from line to line where matches start there alone: not where each match opens with one text, or starts with
+/// one byte, for which it scans faster.
+fn is_worth_lines(prefilter: &Prefilter) -> bool {
+    if prefilter.has_text() {
+        return false;
+    }
+    match &prefilter.starts {
+        None => true,
+        Some(scan) => scan.only().is_none(),
+    }
+}
+
 /// Whether each match starts at a line start, and a search would go by them.
 fn starts_lines(code: &Code) -> bool
     ensures { result ≡ true → IsAnchored (instrs_of code.now) Assertion.LineStart code.now.start }
 {
-    code.prefilter.is_worth_lines() && starts_at(code, Assertion::LineStart)
+    is_worth_lines(&code.prefilter) && starts_at(code, Assertion::LineStart)
 }
 
 /// The same code, with the scan for the line feeds after which its matches start.
@@ -445,7 +463,8 @@ fn starts_words(code: &Code) -> bool
     ensures { result ≡ true → IsAnchored (instrs_of code.now) Assertion.WordBoundary code.now.start }
 {
     let prefilter = &code.prefilter;
-    if prefilter.scans_for_opening() || prefilter.has_words() || prefilter.is_anchored() {
+    let has_words = matches!(prefilter.opening, Opening::Words(_));
+    if prefilter.scans_for_opening() || has_words || prefilter.is_anchored() {
         return false;
     }
     starts_at(code, Assertion::WordBoundary)

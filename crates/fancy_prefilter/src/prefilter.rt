@@ -120,24 +120,6 @@ impl Prefilter {
         })
     }
 
-    /// Whether a search would go from line to line where matches start there alone: not where each match opens with one text, or
-    /// starts with one byte, for which it scans faster.
-    pub fn is_worth_lines(&self) -> bool {
-        if self.has_text() {
-            return false;
-        }
-        match &self.starts {
-            None => true,
-            Some(scan) => scan.only().is_none(),
-        }
-    }
-
-    /// Whether a search would scan for a window: not where each match opens with one text, or may start with any byte, or starts with
-    /// one that texts seldom have.
-    pub fn is_worth_window(&self) -> bool {
-        !self.has_text() && self.starts.is_some() && !self.starts_seldom()
-    }
-
     /// Whether each match starts at the text's start.
     pub fn only_at_start(&self) -> bool {
         matches!(self.anchor, Anchor::AtStart)
@@ -177,7 +159,8 @@ impl Prefilter {
     /// Whether it tells little of where matches begin: nothing that they go on to, and nothing that they open with is scanned for, and they
     /// start not with one byte that texts have seldom, or at the text's start alone.
     pub fn tells_little(&self) -> bool {
-        if self.scans_for_opening() || self.has_words() || self.only_at_start() {
+        let has_words = matches!(self.opening, Opening::Words(_));
+        if self.scans_for_opening() || has_words || self.only_at_start() {
             return false;
         }
         self.region.is_none() && !self.starts_seldom()
@@ -192,10 +175,5 @@ impl Prefilter {
             None => false,
             Some(byte) => !stands_often(byte),
         }
-    }
-
-    /// Whether each match opens with one of many alternatives that are told.
-    pub fn has_words(&self) -> bool {
-        matches!(self.opening, Opening::Words(_))
     }
 }
