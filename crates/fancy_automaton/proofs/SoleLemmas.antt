@@ -19,9 +19,9 @@ use Rattle.fancy_states.specs.declared.cells.Cells.{Cells}
 use Rattle.fancy_automaton.specs.declared.hop.Stand.{Stand}
 use Rattle.fancy_states.specs.declared.origin.Origin.{Origin}
 use Rattle.fancy_states.specs.declared.origin.Origin.TheVariants.{Earlier, Last, Mixed}
-use Rattle.fancy_states.specs.declared.transitions.Entry.{Entry}
-use Rattle.fancy_states.specs.declared.transitions.Entry.TheVariants.{Quiet}
-use Rattle.fancy_states.specs.declared.transitions.Entry.TheVariants as entries
+use Rattle.fancy_states.specs.declared.transitions.Kind.{Kind}
+use Rattle.fancy_states.specs.declared.transitions.Kind.TheVariants.{Quiet}
+use Rattle.fancy_states.specs.declared.transitions.Kind.TheVariants as kinds
 use Rattle.fancy_states.specs.declared.transitions.Transition.{Transition}
 use Rattle.fancy_states.specs.declared.way.Way.{Way}
 use Rattle.fancy_alphabet.specs.declared.classes.Classes.{Classes}
@@ -39,7 +39,7 @@ use Rattle.fancy_states.specs.declared.trail.Hit.{Hit}
 use Rattle.fancy_states.specs.declared.trail.Visit.{Visit}
 use Rattle.fancy_automaton.proofs.FrontLemmas.{known_found, known_in}
 use Rattle.fancy_states.specs.Steps.{IsStep, at_of, from_of, span_by, start_in}
-use Rattle.fancy_states.specs.Transitions.{IsEntry, IsMatching, IsQuiet, IsTransition}
+use Rattle.fancy_states.specs.Transitions.{IsEntry, IsMatching, IsOfKind, IsQuiet, IsTransition}
 use Rattle.fancy_states.specs.Ways.{match_end}
 use Rattle.fancy_states.proofs.CellLemmas.{cell_is, row_here, row_holds, row_ways}
 use Rattle.fancy_automaton.proofs.GoingLemmas.{going_on, going_same, going_step}
@@ -131,13 +131,13 @@ all_below (x ∷ xs) k zero all low = absurd (omega (arith, all))
 all_below (x ∷ xs) k (suc n) all low =
     ap₂ (λ (a b : Bool). a && b) (is_below x k (low 0 (omega arith))) (all_below xs k n (omega (arith, all)) (λ i lt. low (suc i) (omega (arith, lt))))
 
--- an entry in which nothing is found, whether or not it is told of which ways those come that go on
-pub quiet_entry : (classes : Classes) (cells : List Cell) (row : ℕ) (sight : Sight) (e : Entry) (t : Transition) → (e ≡ Quiet t) ⊎ (e ≡ entries.Mixed t)
-    → IsEntry classes cells row sight e → IsTransition classes cells row sight t × IsQuiet cells t
-quiet_entry classes cells row sight e t is told =
+-- a step in which nothing is found, whether or not it is told of which ways those come that go on
+pub quiet_entry : (classes : Classes) (cells : List Cell) (row : ℕ) (sight : Sight) (t : Transition) → (t.kind ≡ Quiet) ⊎ (t.kind ≡ kinds.Mixed)
+    → IsEntry classes cells row sight t → IsTransition classes cells row sight t × IsQuiet cells t
+quiet_entry classes cells row sight t is told =
     elim is [
-      | inl quiet ↦ (let on = subst (IsEntry classes cells row sight) quiet told in (on.0, on.1))
-      | inr mixed ↦ subst (IsEntry classes cells row sight) mixed told
+      | inl quiet ↦ (let on = subst (λ (k : Kind). IsOfKind k classes cells row sight t) quiet told in (on.0, on.1))
+      | inr mixed ↦ subst (λ (k : Kind). IsOfKind k classes cells row sight t) mixed told
     ]
 
 -- of which way a match comes that is found

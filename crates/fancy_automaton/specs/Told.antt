@@ -8,7 +8,7 @@ use Rattle.fancy_alphabet.specs.Units.{place_after}
 use Rattle.fancy_alphabet.specs.declared.classes.Classes.{Classes}
 use Rattle.fancy_alphabet.specs.declared.sight.Sight.{Sight}
 use Rattle.fancy_states.specs.declared.cells.Cells.{Cells}
-use Rattle.fancy_states.specs.declared.transitions.Entry.{Entry}
+use Rattle.fancy_states.specs.declared.transitions.Transition.{Transition}
 use Rattle.fancy_states.specs.Transitions.{IsEntry}
 
 -- A character is read at a place up to another one, where a match may begin and end too. The code treats what is seen as this sight,
@@ -22,6 +22,6 @@ pub record Sees (a : Attempt) (classes : Classes) (place past : ℕ) (sight : Si
   pub begins : (row start : ℕ) → start ≡ row_start classes row sight.after → IsStart (context_in a) past classes row start
 
 -- the step from a row on what is read there
-abbrev pub IsTold : Attempt → Cells → ℕ → ℕ → ℕ → Entry → Type 0
-IsTold a cells row place past entry =
-    (sight : Sight) × Sees a cells.table.classes place past sight × IsEntry cells.table.classes cells.cells.items row sight entry
+abbrev pub IsTold : Attempt → Cells → ℕ → ℕ → ℕ → Transition → Type 0
+IsTold a cells row place past step =
+    (sight : Sight) × Sees a cells.table.classes place past sight × IsEntry cells.table.classes cells.cells.items row sight step

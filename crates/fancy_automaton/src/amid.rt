@@ -12,7 +12,7 @@ use fancy_code::attempt::Attempt;
 use fancy_states::cells::{Cell, Cells};
 use fancy_states::origin::Origin;
 use fancy_states::trail::VISITS;
-use fancy_states::transitions::{Entry, Transition};
+use fancy_states::transitions::{Kind, Transition};
 
 /// A search whose ways that wait may have begun at several places, where nothing was found.
 #[derive(Clone, Copy)]
@@ -95,11 +95,12 @@ pub(crate) fn hunt(attempt: &Attempt, cells: &Cells, from: Amid) -> Option<Sole>
     let mut at = from;
     'places: while at.stand.place < limit {
         let told = told_at(attempt, table, at.stand.opened, at.stand.place, false)?;
-        let step = match told.entry {
-            Entry::Unknown => return None,
-            Entry::Matching(step) => return found_after(cells, at, told.past, *step),
-            Entry::Quiet(step) | Entry::Mixed(step) => step,
-        };
+        let step = told.step;
+        match step.kind {
+            Kind::Unknown => return None,
+            Kind::Matching => return found_after(cells, at, told.past, *step),
+            Kind::Quiet | Kind::Mixed => {}
+        }
         let stand = stand_after(told.past, *step);
         if matches!(step.origin, Origin::Last) {
             return Some(Sole {

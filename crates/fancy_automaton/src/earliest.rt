@@ -19,7 +19,7 @@ use fancy_code::attempt::Attempt;
 use fancy_input::work::Work;
 use fancy_states::cells::{Cells, origin, seen_at, step_at};
 use fancy_states::rows::Target;
-use fancy_states::transitions::Entry;
+use fancy_states::transitions::Kind;
 use std::alloc::AllocError;
 
 /// Where ways wait, wherever they began, and nothing was found.
@@ -49,12 +49,13 @@ fn glide(attempt: &Attempt, cells: &Cells, from: Stand, any: bool) -> Stand
         let Some(told) = told_at(attempt, table, row, place, any) else {
             break 'places;
         };
-        let step = match told.entry {
-            Entry::Quiet(step) => step,
-            Entry::Mixed(step) if step.next as usize != idle => step,
-            Entry::Mixed(step) if any && may_start(attempt, told.past) => step,
+        let step = told.step;
+        match step.kind {
+            Kind::Quiet => {}
+            Kind::Mixed if step.next as usize != idle => {}
+            Kind::Mixed if any && may_start(attempt, told.past) => {}
             _ => break 'places,
-        };
+        }
         row = step.opened;
         place = told.past;
         last = Some(step);
@@ -130,10 +131,10 @@ fn pass(
     if at.place < attempt.last
         && let Some(told) = told_at(attempt, cells.table.view(), at.opened, at.place, true)
     {
-        if let Entry::Matching(_) = *told.entry {
+        if let Kind::Matching = told.step.kind {
             return Ok(None);
         }
-        if let Some(step) = quiet_step(*told.entry) {
+        if let Some(step) = quiet_step(*told.step) {
             return Ok(Some(Waiting {
                 place: told.past,
                 rows: Target {

@@ -17,7 +17,7 @@ use fancy_prefilter::candidates::{next_candidate, next_opening};
 use fancy_states::cells::Cells;
 use fancy_states::origin::Origin;
 use fancy_states::rows::Target;
-use fancy_states::transitions::{Entry, Transition};
+use fancy_states::transitions::{Kind, Transition};
 
 /// The first place, from one on, at which a match may begin by the byte there; past the last one where there is none.
 #[inline(always)]
@@ -138,15 +138,15 @@ fn seek(attempt: &Attempt, cells: &Cells, from: Sole, idle: usize, any: bool) ->
         let Some(told) = told_at(attempt, table, row, place, any) else {
             break 'places;
         };
+        let step = told.step;
         let mut ends = false;
-        let step = match told.entry {
-            Entry::Quiet(step) => step,
-            Entry::Mixed(step) if step.next as usize == idle => {
+        match step.kind {
+            Kind::Quiet => {}
+            Kind::Mixed if step.next as usize == idle => {
                 ends = !any || !may_start(attempt, told.past);
-                step
             }
             _ => break 'places,
-        };
+        }
         start = start_after(step.origin, place, start);
         row = step.opened;
         place = told.past;
@@ -227,7 +227,7 @@ fn past(
     }
     let table = cells.table.view();
     let told = told_at(attempt, table, at.stand.opened, at.stand.place, any)?;
-    if let Some(step) = quiet_step(*told.entry) {
+    if let Some(step) = quiet_step(*told.step) {
         if step.next as usize != idle {
             return onward(attempt, cells, Amid::new(cells, at), idle, scans);
         }
@@ -238,7 +238,8 @@ fn past(
         };
         return skip(attempt, cells, sole, idle, scans);
     }
-    let Entry::Matching(step) = *told.entry else {
+    let step = *told.step;
+    let Kind::Matching = step.kind else {
         return None;
     };
     let start = match step.origin {
@@ -279,14 +280,12 @@ pub(crate) fn lengthen(attempt: &Attempt, cells: &Cells, from: Sole, any: bool) 
         let Some(told) = told_at(attempt, table, row, place, any) else {
             break 'places;
         };
-        let step = match told.entry {
-            Entry::Unknown => break 'places,
-            Entry::Quiet(step) | Entry::Mixed(step) => step,
-            Entry::Matching(step) => {
-                end = Some(place);
-                step
-            }
-        };
+        let step = told.step;
+        match step.kind {
+            Kind::Unknown => break 'places,
+            Kind::Quiet | Kind::Mixed => {}
+            Kind::Matching => end = Some(place),
+        }
         row = step.ahead;
         place = told.past;
         last = Some(step);

@@ -29,7 +29,7 @@ use fancy_states::trail::{
     Hit, Trail, VISITS, Visit, hit_from, note_hit, row_at, settled, shared_start, span_of,
     start_at, starts_in,
 };
-use fancy_states::transitions::Entry;
+use fancy_states::transitions::Kind;
 use std::alloc::AllocError;
 use std::mem;
 
@@ -313,7 +313,7 @@ impl Front {
         let start = row_start(attempt, cells, place, row);
         match told_at(attempt, cells.table.view(), start, place, true) {
             None => false,
-            Some(told) => !matches!(told.entry, Entry::Unknown),
+            Some(told) => !matches!(told.step.kind, Kind::Unknown),
         }
     }
 

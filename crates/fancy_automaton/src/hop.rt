@@ -17,7 +17,7 @@ use fancy_code::attempt::Attempt;
 use fancy_states::cells::Cells;
 use fancy_states::rows::Target;
 use fancy_states::trail::{Hit, Trail, VISITS, Visit, note_hit, start_at};
-use fancy_states::transitions::{Entry, Transition};
+use fancy_states::transitions::{Kind, Transition};
 use std::alloc::AllocError;
 
 /// Where a search stands.
@@ -71,31 +71,30 @@ pub(crate) fn ahead_of(attempt: &Attempt, cells: &Cells, at: Stand) -> u32
     (next + (at.opened as usize - begun)) as u32
 }
 
-/// Notes the match that an entry's step finds at a place, if it finds one. The answer is the step, if the entry has one.
+/// Notes the match that a step finds at a place, if it finds one. The answer is the step, if it is remembered.
 #[inline(always)]
 fn step_of(
-    entry: Entry,
+    step: Transition,
     cells: &Cells,
     hit: &mut Option<Hit>,
     visits: usize,
     place: usize,
 ) -> Option<Transition>
     ensures none { result ≡ None → hit.new ≡ hit.old }
-    ensures unknown { entry ≡ Entry.Unknown → result ≡ None }
+    ensures unknown { step.kind ≡ Kind.Unknown → result ≡ None }
     ensures told { (row : ℕ) (sight : Sight)
-        → IsEntry cells.now.table.classes cells.now.cells.items row sight entry
+        → IsEntry cells.now.table.classes cells.now.cells.items row sight step
         → IfSome result (IsTransition cells.now.table.classes cells.now.cells.items row sight) }
     ensures found { (row : ℕ) (sight : Sight)
-        → IsEntry cells.now.table.classes cells.now.cells.items row sight entry
+        → IsEntry cells.now.table.classes cells.now.cells.items row sight step
         → IfSome result (λ t. (c : Cell) → slice_get cells.now.cells.items t.cell ≡ Some c
         → hit.new ≡ hit_or hit.old c.matched visits place) }
 {
-    match entry {
-        Entry::Unknown => None,
-        Entry::Quiet(step) | Entry::Mixed(step) => Some(step),
-        Entry::Matching(step) => {
-            let k = step.cell as usize;
-            let cell = cells.cells.get(k)?;
+    match step.kind {
+        Kind::Unknown => None,
+        Kind::Quiet | Kind::Mixed => Some(step),
+        Kind::Matching => {
+            let cell = cells.cells.get(step.cell as usize)?;
             note_hit(hit, cell.matched, visits, place);
             Some(step)
         }
@@ -184,7 +183,7 @@ pub(crate) fn run(
             return Ok(at);
         };
         let visits = trail.visits.len();
-        let Some(step) = step_of(*told.entry, cells, hit, visits, at.place) else {
+        let Some(step) = step_of(*told.step, cells, hit, visits, at.place) else {
             return Ok(at);
         };
         trail.visits.push(Visit {

@@ -12,28 +12,28 @@ ghost use Rattle.fancy_states.specs.declared.cells.Cells.{Cells};
 
 use fancy_code::attempt::Attempt;
 use fancy_meaning::reading::read_any_at;
-use fancy_states::transitions::{Entry, Transition, View};
+use fancy_states::transitions::{Kind, Transition, View};
 
 /// The step that the table has of a row and the character at a place.
 #[derive(Clone, Copy)]
 pub(crate) struct Told<'t> {
     /// What it has of the step.
-    pub(crate) entry: &'t Entry,
+    pub(crate) step: &'t Transition,
     /// The place after the character, a byte offset.
     pub(crate) past: usize,
 }
 
-/// The step of an entry, if it has one in which no way ended with an outcome.
+/// A step, if it is remembered and no way ended with an outcome in it.
 #[inline(always)]
-pub(crate) fn quiet_step(entry: Entry) -> Option<Transition>
+pub(crate) fn quiet_step(step: Transition) -> Option<Transition>
     ensures { (cells : Cells) (row : ℕ) (sight : Sight)
-        → IsEntry cells.table.classes cells.cells.items row sight entry
+        → IsEntry cells.table.classes cells.cells.items row sight step
         → IfSome result (λ t. IsTransition cells.table.classes cells.cells.items row sight t
         × IsQuiet cells.cells.items t) }
 {
-    match entry {
-        Entry::Quiet(step) | Entry::Mixed(step) => Some(step),
-        Entry::Unknown | Entry::Matching(_) => None,
+    match step.kind {
+        Kind::Quiet | Kind::Mixed => Some(step),
+        Kind::Unknown | Kind::Matching => None,
     }
 }
 
@@ -54,7 +54,7 @@ fn told_wide<'t>(attempt: &Attempt, table: View<'t>, start: u32, place: usize) -
         → IsFollowed attempt.now → HoldsFor cells attempt.now.code.now
         → may_end_in attempt.now place ≡ true
         → IsStart (context_in attempt.now) place cells.table.classes row start
-        → IfSome result (λ t. IsTold attempt.now cells row place t.past t.entry.now) }
+        → IfSome result (λ t. IsTold attempt.now cells row place t.past t.step.now) }
     ensures forth { IfSome result (λ t. place < t.past) }
     ensures within { IfSome result (λ t. t.past ≤ attempt.now.last) }
 {
@@ -66,8 +66,8 @@ fn told_wide<'t>(attempt: &Attempt, table: View<'t>, start: u32, place: usize) -
     if past > attempt.last {
         return None;
     }
-    let entry = table.wide(start, table.tests.after(attempt, place), reading)?;
-    Some(Told { entry, past })
+    let step = table.wide(start, table.tests.after(attempt, place), reading)?;
+    Some(Told { step, past })
 }
 
 /// What the table has of the row whose columns begin at `start` for what stands before a place, and the character there. One past ASCII
@@ -86,15 +86,15 @@ pub(crate) fn told_at<'t>(
         → IsFollowed attempt.now → HoldsFor cells attempt.now.code.now
         → may_end_in attempt.now place ≡ true
         → IsStart (context_in attempt.now) place cells.table.classes row start
-        → IfSome result (λ t. IsTold attempt.now cells row place t.past t.entry.now) }
+        → IfSome result (λ t. IsTold attempt.now cells row place t.past t.step.now) }
     ensures forth { IfSome result (λ t. place < t.past) }
     ensures within { IfSome result (λ t. t.past ≤ attempt.now.last) }
 {
     match table.column(attempt.haystack[place]) {
         Some(column) => {
-            let entry = table.entry(start, column)?;
+            let step = table.entry(start, column)?;
             Some(Told {
-                entry,
+                step,
                 past: place + 1,
             })
         }

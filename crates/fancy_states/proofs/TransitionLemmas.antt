@@ -1,17 +1,17 @@
 -- The table of a search.
-use Rattle.std.proofs.Common.{◌≡◌, ℕ, ◌+◌, ◌*◌, ◌/◌, ◌<◌, ◌≤◌, ◌⊎◌, inl, inr, [], ◌∷◌, ◌++◌, List, Option, Some, refl, sym, ap, ap₂, ◌∙◌, subst, arith, length, get_or, set}
+use Rattle.std.proofs.Common.{◌≡◌, ◌≢◌, ℕ, ◌+◌, ◌*◌, ◌/◌, ◌<◌, ◌≤◌, ◌⊎◌, inl, inr, [], ◌∷◌, ◌++◌, List, Option, Some, refl, sym, ap, ap₂, ◌∙◌, subst, arith, length, get_or, set}
 use Rattle.std.specs.Prelude.{slice_get}
 use Rattle.std.proofs.lemmas.Bool.Decides.{eqb_tells}
 use Rattle.std.proofs.lemmas.List.{get_or-set_same, get_or-set_other, length-append}
 use Rattle.std.proofs.lemmas.Option.{slice_get_cases}
 use Rattle.fancy_states.specs.declared.cells.Cell.{Cell}
 use Rattle.fancy_states.specs.declared.transitions.Transition.{Transition}
-use Rattle.fancy_states.specs.declared.transitions.Entry.{Entry}
-use Rattle.fancy_states.specs.declared.transitions.Entry.TheVariants.{Unknown, Quiet, Mixed, Matching}
+use Rattle.fancy_states.specs.declared.transitions.Kind.{Kind}
+use Rattle.fancy_states.specs.declared.transitions.Kind.TheVariants.{Unknown, Quiet, Mixed, Matching}
 use Rattle.fancy_states.specs.declared.transitions.Transitions.{Transitions}
 use Rattle.fancy_states.specs.declared.slots.Slot.{Slot}
 use Rattle.fancy_states.specs.declared.slots.Slots.{Slots}
-use Rattle.fancy_states.specs.Slots.{ComeFrom, IsIn, blank}
+use Rattle.fancy_states.specs.Slots.{ComeFrom, IsIn, blank, nothing, unknown}
 use Rattle.std.specs.Global.{Vec}
 use Rattle.fancy_alphabet.specs.declared.classes.Classes.{Classes}
 use Rattle.std.proofs.lemmas.Nat.{div-mul-add}
@@ -27,7 +27,7 @@ use Rattle.fancy_alphabet.specs.Classes.{AreClasses}
 use Rattle.fancy_states.specs.declared.cells.Cells.{Cells}
 use Rattle.fancy_states.specs.Cells.{GrowsBy, HasPlace, HoldsFor, IsCell, IsFor, KeepsCells}
 use Rattle.fancy_states.proofs.CellLemmas.{cells_more, grown}
-use Rattle.fancy_states.specs.Transitions.{AreTold, IsEntry, IsSlot, IsTransition, entry_at, slot_sight}
+use Rattle.fancy_states.specs.Transitions.{AreTold, IsEntry, IsOfKind, IsSlot, IsTransition, entry_at, slot_sight}
 
 other_part : (p q a b w : ℕ) → p ≡ q → p * w + a ≡ q * w + b → a ≡ b
 other_part p q a b w e f =
@@ -35,21 +35,44 @@ other_part p q a b w e f =
     omega (arith, f, g)
 
 -- what the table has of a row and a column
-pub told_entry : (cells : List Cell) (table : Transitions) (row column : ℕ) (sight : Sight) (e : Entry) → AreTold cells table → IsColumn table.classes sight column
-    → e ≡ entry_at table row column → IsEntry table.classes cells row sight e
-told_entry cells table row column sight Unknown told is e = tt
-told_entry cells table row column sight (Quiet t) told is e = told.quiet row column sight t is (sym e)
-told_entry cells table row column sight (Mixed t) told is e = told.mixed row column sight t is (sym e)
-told_entry cells table row column sight (Matching t) told is e = told.matching row column sight t is (sym e)
+pub told_entry : (cells : List Cell) (table : Transitions) (row column : ℕ) (sight : Sight) (t : Transition) → AreTold cells table → IsColumn table.classes sight column
+    → t ≡ entry_at table row column → IsEntry table.classes cells row sight t
+told_entry cells table row column sight t told is e = subst (IsEntry table.classes cells row sight) (sym e) (by (entry_at table row column).kind refl) where
+  by : (k : Kind) → (entry_at table row column).kind ≡ k → IsOfKind k table.classes cells row sight (entry_at table row column)
+  by Unknown same = tt
+  by Quiet same = told.quiet row column sight is same
+  by Mixed same = told.mixed row column sight is same
+  by Matching same = told.matching row column sight is same
 
 -- what a slot has
 pub told_slot : (cells : List Cell) (table : Transitions) (s : Slot) → AreTold cells table → IsIn table.slots.items.items s → IsSlot table.classes cells s
-told_slot cells table s told is some row before low begins = by s.entry refl where
-  by : (e : Entry) → s.entry ≡ e → IsEntry table.classes cells row (slot_sight before s) e
+told_slot cells table s told is some row before low begins = by s.entry.kind refl where
+  by : (k : Kind) → s.entry.kind ≡ k → IsOfKind k table.classes cells row (slot_sight before s) s.entry
   by Unknown same = tt
-  by (Quiet t) same = told.apart_quiet s is some row before low begins t same
-  by (Mixed t) same = told.apart_mixed s is some row before low begins t same
-  by (Matching t) same = told.apart_matching s is some row before low begins t same
+  by Quiet same = told.apart_quiet s is some row before low begins same
+  by Mixed same = told.apart_mixed s is some row before low begins same
+  by Matching same = told.apart_matching s is some row before low begins same
+
+-- each entry and each slot is such a step
+are_told : (cells : List Cell) (table : Transitions)
+    → ((row column : ℕ) (sight : Sight) → IsColumn table.classes sight column → IsEntry table.classes cells row sight (entry_at table row column))
+    → ((s : Slot) → IsIn table.slots.items.items s → IsSlot table.classes cells s) → AreTold cells table
+are_told cells table entries slots = record {
+  quiet = λ row column sight is e. entry Quiet row column sight is e;
+  mixed = λ row column sight is e. entry Mixed row column sight is e;
+  matching = λ row column sight is e. entry Matching row column sight is e;
+  apart_quiet = λ s is some row before low begins e. slot Quiet s is some row before low begins e;
+  apart_mixed = λ s is some row before low begins e. slot Mixed s is some row before low begins e;
+  apart_matching = λ s is some row before low begins e. slot Matching s is some row before low begins e;
+} where
+  entry : (k : Kind) (row column : ℕ) (sight : Sight) → IsColumn table.classes sight column → (entry_at table row column).kind ≡ k
+      → IsOfKind k table.classes cells row sight (entry_at table row column)
+  entry k row column sight is e = subst (λ (x : Kind). IsOfKind x table.classes cells row sight (entry_at table row column)) e (entries row column sight is)
+
+  slot : (k : Kind) (s : Slot) → IsIn table.slots.items.items s → s.code ≢ nothing → (row : ℕ) (before : Side) → number_of before < sides_of table.classes.tests
+      → s.start ≡ row_start table.classes row before → s.entry.kind ≡ k → IsOfKind k table.classes cells row (slot_sight before s) s.entry
+  slot k s is some row before low begins e =
+      subst (λ (x : Kind). IsOfKind x table.classes cells row (slot_sight before s) s.entry) e (slots s is some row before low begins)
 
 -- more cells
 module _ (cells later : List Cell) (grown : KeepsCells cells later) (longer : length cells ≤ length later) where
@@ -72,24 +95,19 @@ module _ (cells later : List Cell) (grown : KeepsCells cells later) (longer : le
     opened = is.opened;
   }
 
-  more_entry : (classes : Classes) (row : ℕ) (sight : Sight) (e : Entry) → IsEntry classes cells row sight e → IsEntry classes later row sight e
-  more_entry classes row sight Unknown is = tt
-  more_entry classes row sight (Quiet t) is = (more_transition classes row sight t is.0, λ c at. is.1 c (stays t.cell is.0.stands c at), is.2)
-  more_entry classes row sight (Mixed t) is = (more_transition classes row sight t is.0, λ c at. is.1 c (stays t.cell is.0.stands c at))
-  more_entry classes row sight (Matching t) is = (more_transition classes row sight t is.0, λ c at. is.1 c (stays t.cell is.0.stands c at))
+  more_of_kind : (k : Kind) (classes : Classes) (row : ℕ) (sight : Sight) (t : Transition) → IsOfKind k classes cells row sight t → IsOfKind k classes later row sight t
+  more_of_kind Unknown classes row sight t is = tt
+  more_of_kind Quiet classes row sight t is = (more_transition classes row sight t is.0, λ c at. is.1 c (stays t.cell is.0.stands c at), is.2)
+  more_of_kind Mixed classes row sight t is = (more_transition classes row sight t is.0, λ c at. is.1 c (stays t.cell is.0.stands c at))
+  more_of_kind Matching classes row sight t is = (more_transition classes row sight t is.0, λ c at. is.1 c (stays t.cell is.0.stands c at))
 
   pub told_more : (table : Transitions) → AreTold cells table → AreTold later table
-  told_more table told = record {
-    apart_quiet = λ s there some row before low begins t e.
-        more_entry table.classes row (slot_sight before s) (Quiet t) (told.apart_quiet s there some row before low begins t e);
-    apart_mixed = λ s there some row before low begins t e.
-        more_entry table.classes row (slot_sight before s) (Mixed t) (told.apart_mixed s there some row before low begins t e);
-    apart_matching = λ s there some row before low begins t e.
-        more_entry table.classes row (slot_sight before s) (Matching t) (told.apart_matching s there some row before low begins t e);
-    quiet = λ row column sight t is e. more_entry table.classes row sight (Quiet t) (told.quiet row column sight t is e);
-    mixed = λ row column sight t is e. more_entry table.classes row sight (Mixed t) (told.mixed row column sight t is e);
-    matching = λ row column sight t is e. more_entry table.classes row sight (Matching t) (told.matching row column sight t is e);
-  }
+  told_more table told =
+      are_told later table
+      (λ row column sight is. more_of_kind (entry_at table row column).kind table.classes row sight (entry_at table row column)
+      (told_entry cells table row column sight (entry_at table row column) told is refl))
+      (λ s is some row before low begins. more_of_kind s.entry.kind table.classes row (slot_sight before s) s.entry
+      (told_slot cells table s told is some row before low begins))
 
 -- the column of what is seen is one of the table
 pub column_within : (classes : Classes) (sight : Sight) (column : ℕ) → IsColumn classes sight column → column < classes.width
@@ -112,37 +130,24 @@ column_same classes a b column is also =
     is.sight ∙ ap₂ (λ (s : Side) (c : ℕ). sight_of classes s (member_of classes c)) (number_same a.before b.before sides) classes_same ∙ sym also.sight
 
 -- the entry at a place among all
-abbrev entry_in : List Entry → Classes → ℕ → ℕ → Entry
-entry_in entries classes row column = get_or entries (row * classes.width + column) Unknown
+abbrev entry_in : List Transition → Classes → ℕ → ℕ → Transition
+entry_in entries classes row column = get_or entries (row * classes.width + column) unknown
 
 -- the same classes, and entries that the table told, or that are steps
 pub told_by : (cells : List Cell) (table later : Transitions) → later.classes ≡ table.classes → AreTold cells table
     → ((s : Slot) → IsIn later.slots.items.items s → IsSlot table.classes cells s)
     → ((row column : ℕ) (sight : Sight) → IsColumn table.classes sight column → (entry_in later.entries.items table.classes row column ≡ entry_at table row column)
     ⊎ IsEntry table.classes cells row sight (entry_in later.entries.items table.classes row column)) → AreTold cells later
-told_by cells table later same told slots each = record {
-  apart_quiet = λ s is some row before low begins t e.
-      subst (IsEntry later.classes cells row (slot_sight before s)) e (subst (λ (k : Classes). IsSlot k cells s) (sym same) (slots s is) some row before low begins);
-  apart_mixed = λ s is some row before low begins t e.
-      subst (IsEntry later.classes cells row (slot_sight before s)) e (subst (λ (k : Classes). IsSlot k cells s) (sym same) (slots s is) some row before low begins);
-  apart_matching = λ s is some row before low begins t e.
-      subst (IsEntry later.classes cells row (slot_sight before s)) e (subst (λ (k : Classes). IsSlot k cells s) (sym same) (slots s is) some row before low begins);
-  quiet = λ row column sight t is e. there row column sight (Quiet t) (column_in sight column is) e (λ old. told.quiet row column sight t (column_in sight column is) old);
-  mixed = λ row column sight t is e. there row column sight (Mixed t) (column_in sight column is) e (λ old. told.mixed row column sight t (column_in sight column is) old);
-  matching = λ row column sight t is e. there row column sight (Matching t) (column_in sight column is) e (λ old. told.matching row column sight t (column_in sight column is) old);
-} where
-  column_in : (sight : Sight) (column : ℕ) → IsColumn later.classes sight column → IsColumn table.classes sight column
-  column_in sight column is = subst (λ (k : Classes). IsColumn k sight column) same is
-
-  there : (row column : ℕ) (sight : Sight) (y : Entry) → IsColumn table.classes sight column → entry_at later row column ≡ y
-      → (entry_at table row column ≡ y → IsEntry table.classes cells row sight y) → IsEntry later.classes cells row sight y
-  there row column sight y is e old =
-      let now : entry_in later.entries.items table.classes row column ≡ y = subst (λ (k : Classes). entry_in later.entries.items k row column ≡ y) same e in
-      subst (λ (k : Classes). IsEntry k cells row sight y) (sym same)
-      (elim (each row column sight is) [
-        | inl kept ↦ old (sym kept ∙ now)
-        | inr told ↦ subst (IsEntry table.classes cells row sight) now told
-      ])
+told_by cells table later same told slots each =
+    are_told cells later
+    (λ row column sight is.
+    (let there = subst (λ (k : Classes). IsColumn k sight column) same is in
+    subst (λ (k : Classes). IsEntry k cells row sight (entry_in later.entries.items k row column)) (sym same)
+    (elim (each row column sight there) [
+      | inl kept ↦ told_entry cells table row column sight (entry_in later.entries.items table.classes row column) told there kept
+      | inr told ↦ told
+    ])))
+    (λ s is. subst (λ (k : Classes). IsSlot k cells s) (sym same) (slots s is))
 
 -- the slots are the same
 same_slots : (cells : List Cell) (table later : Transitions) → later.slots ≡ table.slots → AreTold cells table
@@ -151,7 +156,7 @@ same_slots cells table later same told s is = told_slot cells table s told (subs
 
 -- the entries are the same
 pub told_same : (cells : List Cell) (table later : Transitions) → later.classes ≡ table.classes → later.slots ≡ table.slots
-    → ((i : ℕ) → get_or later.entries.items i Unknown ≡ get_or table.entries.items i Unknown) → AreTold cells table → AreTold cells later
+    → ((i : ℕ) → get_or later.entries.items i unknown ≡ get_or table.entries.items i unknown) → AreTold cells table → AreTold cells later
 told_same cells table later classes slots same told =
     told_by cells table later classes told (same_slots cells table later slots told) (λ row column sight is. inl (same (row * table.classes.width + column)))
 
@@ -164,7 +169,7 @@ told_left cells table later classes entries slots told =
       | inl there ↦ told_slot cells table s told there
       | inr new ↦ new
     ])
-    (λ row column sight is. inl (ap (λ (es : Vec Entry). get_or es.items (row * table.classes.width + column) Unknown) entries))
+    (λ row column sight is. inl (ap (λ (es : Vec Transition). get_or es.items (row * table.classes.width + column) unknown) entries))
 
 pub blank_slot : (classes : Classes) (cells : List Cell) → IsSlot classes cells blank
 blank_slot classes cells some = absurd (some refl)
@@ -209,7 +214,7 @@ slot_is classes cells row sight s some low start seen entry known row' before lo
     (subst (λ (x : Sight). IsEntry classes cells row x s.entry) (sym seen) entry))
 
 -- one entry is put in
-pub told_set : (cells : List Cell) (table later : Transitions) (row column : ℕ) (sight : Sight) (x : Entry) → later.classes ≡ table.classes → later.slots ≡ table.slots
+pub told_set : (cells : List Cell) (table later : Transitions) (row column : ℕ) (sight : Sight) (x : Transition) → later.classes ≡ table.classes → later.slots ≡ table.slots
     → later.entries.items ≡ set table.entries.items (row * table.classes.width + column) x
     → row * table.classes.width + column < length table.entries.items → IsColumn table.classes sight column → IsEntry table.classes cells row sight x
     → AreTold cells table → AreTold cells later
@@ -218,8 +223,8 @@ told_set cells table later row column sight x classes slots put within is entry 
       ⊎ IsEntry table.classes cells r seen (entry_in later.entries.items table.classes r b)
   each r b seen also =
       let w = table.classes.width in
-      let now : entry_in later.entries.items table.classes r b ≡ get_or (set table.entries.items (row * w + column) x) (r * w + b) Unknown =
-      ap (λ (es : List Entry). get_or es (r * w + b) Unknown) put in
+      let now : entry_in later.entries.items table.classes r b ≡ get_or (set table.entries.items (row * w + column) x) (r * w + b) unknown =
+      ap (λ (es : List Transition). get_or es (r * w + b) unknown) put in
       elim (eqb_tells (r * w + b) (row * w + column)) [
         | inl same ↦ (
             let low = column_within table.classes sight column is in
@@ -228,11 +233,11 @@ told_set cells table later row column sight x classes slots put within is entry 
             let columns : column ≡ b = other_part row r column b w rows (sym same.1) in
             let sights : sight ≡ seen = column_same table.classes sight seen b (subst (IsColumn table.classes sight) columns is) also in
             let there : x ≡ entry_in later.entries.items table.classes r b =
-            sym (get_or-set_same table.entries.items (row * w + column) x Unknown within) ∙ ap (λ (i : ℕ). get_or (set table.entries.items (row * w + column) x) i Unknown) (sym same.1) ∙ sym now in
+            sym (get_or-set_same table.entries.items (row * w + column) x unknown within) ∙ ap (λ (i : ℕ). get_or (set table.entries.items (row * w + column) x) i unknown) (sym same.1) ∙ sym now in
             inr (subst (λ (n : ℕ). IsEntry table.classes cells n seen (entry_in later.entries.items table.classes r b)) rows
             (subst (λ (s : Sight). IsEntry table.classes cells row s (entry_in later.entries.items table.classes r b)) sights
             (subst (IsEntry table.classes cells row sight) there entry))))
-        | inr away ↦ inl (now ∙ get_or-set_other table.entries.items (row * w + column) (r * w + b) x Unknown away.1)
+        | inr away ↦ inl (now ∙ get_or-set_other table.entries.items (row * w + column) (r * w + b) x unknown away.1)
       ]
 
 -- a cell is put behind the others
@@ -262,8 +267,8 @@ holds_more code cells later row sight c told place all rows more from on is same
     }
 
 -- what the table has of a row and a character, after a side that is told apart
-pub told_at : (cells : List Cell) (table : Transitions) (row byte column : ℕ) (before : Side) (e : Entry) → slice_get table.classes.columns.items byte ≡ Some column
-    → number_of before < sides_of table.classes.tests → e ≡ get_or table.entries.items (row_start table.classes row before + column) Unknown
+pub told_at : (cells : List Cell) (table : Transitions) (row byte column : ℕ) (before : Side) (e : Transition) → slice_get table.classes.columns.items byte ≡ Some column
+    → number_of before < sides_of table.classes.tests → e ≡ get_or table.entries.items (row_start table.classes row before + column) unknown
     → AreTold cells table → IsEntry table.classes cells row (sight_for table.classes before byte) e
 told_at cells table row byte column before e here seen is told =
     let place : row_start table.classes row before + column ≡ row * table.classes.width + (first_of table.classes before + column) = omega arith in
@@ -274,11 +279,11 @@ told_at cells table row byte column before e here seen is told =
       side = seen;
       sight = ap (λ (o : Option ℕ). sight_of table.classes before (member_or table.classes o byte)) here;
       column = refl;
-    }) (is ∙ ap (λ (n : ℕ). get_or table.entries.items n Unknown) place)
+    }) (is ∙ ap (λ (n : ℕ). get_or table.entries.items n unknown) place)
 
 -- an entry is put in on a character that stands for its class
-pub told_noted : (cells : List Cell) (table made later : Transitions) (row column : ℕ) (sight : Sight) (x : Entry) → IsColumn table.classes sight column → made.classes ≡ table.classes → made.slots ≡ table.slots
-    → ((i : ℕ) → get_or made.entries.items i Unknown ≡ get_or table.entries.items i Unknown)
+pub told_noted : (cells : List Cell) (table made later : Transitions) (row column : ℕ) (sight : Sight) (x : Transition) → IsColumn table.classes sight column → made.classes ≡ table.classes → made.slots ≡ table.slots
+    → ((i : ℕ) → get_or made.entries.items i unknown ≡ get_or table.entries.items i unknown)
     → row * made.classes.width + made.classes.width ≤ length made.entries.items → later.classes ≡ made.classes → later.slots ≡ made.slots
     → later.entries.items ≡ set made.entries.items (row * made.classes.width + column) x → AreTold cells table → IsEntry table.classes cells row sight x
     → AreTold cells later

@@ -17,7 +17,7 @@ use crate::rows::{Rows, Target, copied, intern, target_of};
 use crate::slots::{NOTHING, slot_at};
 use crate::step::{Scratch, Step, step_from};
 use crate::trail::Trail;
-use crate::transitions::{Entry, Transition, Transitions};
+use crate::transitions::{Kind, Transition, Transitions};
 use crate::way::Way;
 use fancy_alphabet::alike::classes_of;
 use fancy_alphabet::classes::Classes;
@@ -66,7 +66,7 @@ const MORE_ROOM: usize = 2_097_152;
 const ROW_BYTES: usize = 160;
 
 /// An entry of the table takes so many bytes.
-const ENTRY_BYTES: usize = 20;
+const ENTRY_BYTES: usize = 16;
 
 /// A step takes about so many bytes, with its slots and without the ways that it leads to.
 const CELL_BYTES: usize = 320;
@@ -314,6 +314,15 @@ pub fn seen_at(attempt: &Attempt, cells: &Cells, place: usize) -> Sight
     }
 }
 
+/// The number of a step, if it is remembered.
+#[inline(always)]
+fn cell_of(step: Transition) -> Option<usize> {
+    match step.kind {
+        Kind::Unknown => None,
+        Kind::Quiet | Kind::Mixed | Kind::Matching => Some(step.cell as usize),
+    }
+}
+
 /// The number of the step from a row on what is seen, an ASCII character, if the table tells it.
 fn told(cells: &Cells, row: usize, sight: Sight, byte: u8) -> Option<usize>
     requires row { row < 65_536 }
@@ -322,12 +331,8 @@ fn told(cells: &Cells, row: usize, sight: Sight, byte: u8) -> Option<usize>
     let classes = &cells.table.classes;
     let column = classes.column(byte)?;
     let table = cells.table.view();
-    match table.at(classes.start(row, sight.before), column) {
-        Entry::Unknown => None,
-        Entry::Quiet(step) | Entry::Mixed(step) | Entry::Matching(step) => {
-            tested_cell(&cells.cells, Some(step.cell as usize), row, sight)
-        }
-    }
+    let step = table.at(classes.start(row, sight.before), column);
+    tested_cell(&cells.cells, cell_of(step), row, sight)
 }
 
 /// The number of the step from a row on what is seen, which is no ASCII character, if a slot tells it.
@@ -342,12 +347,7 @@ fn told_apart(cells: &Cells, row: usize, sight: Sight) -> Option<usize>
     };
     let start = cells.table.classes.start(row, sight.before);
     let slot = slot_at(&cells.table.slots.items, start, code)?;
-    match slot.entry {
-        Entry::Unknown => None,
-        Entry::Quiet(step) | Entry::Mixed(step) | Entry::Matching(step) => {
-            tested_cell(&cells.cells, Some(step.cell as usize), row, sight)
-        }
-    }
+    tested_cell(&cells.cells, cell_of(slot.entry), row, sight)
 }
 
 /// Whether the table tells the step from a row on an ASCII character, with what stands before it.
@@ -359,7 +359,10 @@ pub fn is_told(cells: &Cells, row: usize, before: Side, byte: u8) -> bool
         return false;
     };
     let table = cells.table.view();
-    !matches!(table.at(classes.start(row, before), column), Entry::Unknown)
+    !matches!(
+        table.at(classes.start(row, before), column).kind,
+        Kind::Unknown
+    )
 }
 
 /// The number of the step from a row on what is seen, if it is remembered.
@@ -376,14 +379,14 @@ pub fn remembered(cells: &Cells, row: usize, sight: Sight) -> Option<usize>
 }
 
 /// The entry of the step with this number, in a table of these classes.
-fn entry_of(cells: &[Cell], k: usize, classes: &Classes) -> Entry
+fn entry_of(cells: &[Cell], k: usize, classes: &Classes) -> Transition
     requires { k < length cells.now }
     ensures { (row : ℕ) (sight : Sight) → HasCell cells.now k row sight
         → IsEntry classes.now cells.now row sight result }
 {
     let cell = &cells[k];
     if k >= SMALL || cell.next >= SMALL || cell.begun >= SMALL {
-        return Entry::Unknown;
+        return Transition::unknown();
     }
     let after = cell.sight.after;
     let step = Transition {
@@ -393,11 +396,18 @@ fn entry_of(cells: &[Cell], k: usize, classes: &Classes) -> Entry
         next: cell.next as u16,
         begun: cell.begun as u16,
         origin: cell.origin,
+        kind: Kind::Matching,
     };
     match cell.matched {
-        Some(_) => Entry::Matching(step),
-        None if matches!(cell.origin, Origin::Mixed) => Entry::Mixed(step),
-        None => Entry::Quiet(step),
+        Some(_) => step,
+        None if matches!(cell.origin, Origin::Mixed) => Transition {
+            kind: Kind::Mixed,
+            ..step
+        },
+        None => Transition {
+            kind: Kind::Quiet,
+            ..step
+        },
     }
 }
 

@@ -3,7 +3,7 @@
 ghost use Rattle.std.specs.Prelude.{◌≡◌, ◌≢◌, IfSome, true};
 ghost use Rattle.fancy_states.specs.Slots.{ComeFrom, IsIn, blank, nothing};
 
-use crate::transitions::Entry;
+use crate::transitions::Transition;
 use fancy_alphabet::side::Side;
 use std::alloc::{AllocError, Global};
 
@@ -21,11 +21,11 @@ pub struct Slot {
     /// The number of the character, or the byte; [`NOTHING`] where nothing is read.
     pub code: u32,
     /// How many bytes it has.
-    pub width: u8,
+    pub width: u32,
     /// What stands after the place.
     pub after: Side,
     /// The step.
-    pub entry: Entry,
+    pub entry: Transition,
 }
 
 impl Slot {
@@ -38,7 +38,7 @@ impl Slot {
             code: NOTHING,
             width: 0,
             after: Side::Other,
-            entry: Entry::Unknown,
+            entry: Transition::unknown(),
         }
     }
 

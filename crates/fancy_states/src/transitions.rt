@@ -3,6 +3,7 @@
 ghost use Rattle.std.specs.Prelude.{◌≡◌, ◌+◌, ◌*◌, ◌<◌, ◌≤◌, ℕ, [], List, OnOk, IfSome, get_or, length, slice_get, Some};
 ghost use Rattle.fancy_alphabet.specs.Classes.{row_start, sight_for};
 ghost use Rattle.fancy_alphabet.specs.Sides.{number_of, sides_of};
+ghost use Rattle.fancy_states.specs.Slots.{unknown};
 ghost use Rattle.fancy_states.specs.Transitions.{AreTold, IsEntry, IsSlot, IsView};
 ghost use Rattle.fancy_states.specs.declared.transitions.Transitions.{Transitions};
 ghost use Rattle.fancy_states.specs.declared.cells.Cell.{Cell};
@@ -16,7 +17,20 @@ use fancy_alphabet::sight::Sight;
 use fancy_meaning::reading::Reading;
 use std::alloc::{AllocError, Global};
 
-/// A step, told by numbers.
+/// What an entry of the table tells of its step.
+#[derive(Clone, Copy, PartialEq, Eq, Debug)]
+pub enum Kind {
+    /// Nothing: the step is not remembered.
+    Unknown,
+    /// No way ended with an outcome in it, and it is told of which ways those come that go on.
+    Quiet,
+    /// No way ended with an outcome in it.
+    Mixed,
+    /// One did.
+    Matching,
+}
+
+/// What the table has of a row and a character: a step, told by numbers, if it is remembered. Loops go by 16 bytes.
 #[derive(Clone, Copy)]
 pub struct Transition {
     /// Where the columns begin of the row after what is read, which stands before it.
@@ -31,23 +45,29 @@ pub struct Transition {
     pub begun: u16,
     /// Of which ways those come that it leads to.
     pub origin: Origin,
+    /// What is told of it.
+    pub kind: Kind,
 }
 
-/// What the table has of a row and a character.
-#[derive(Clone, Copy)]
-pub enum Entry {
-    /// The step is not remembered.
-    Unknown,
-    /// The step, in which no way ended with an outcome, and it is told of which ways those come that go on.
-    Quiet(Transition),
-    /// The step, in which no way ended with an outcome.
-    Mixed(Transition),
-    /// The step, in which one may have.
-    Matching(Transition),
+impl Transition {
+    /// A step that is not remembered.
+    pub fn unknown() -> Transition
+        ensures { result ≡ unknown }
+    {
+        Transition {
+            ahead: 0,
+            opened: 0,
+            cell: 0,
+            next: 0,
+            begun: 0,
+            origin: Origin::Mixed,
+            kind: Kind::Unknown,
+        }
+    }
 }
 
 /// The slot of a step from a row on what is no ASCII character, if there is one for it.
-fn slot_of(classes: &Classes, row: usize, sight: Sight, entry: Entry) -> Option<Slot>
+fn slot_of(classes: &Classes, row: usize, sight: Sight, entry: Transition) -> Option<Slot>
     requires { row < 65_536 }
     ensures { IfSome result (λ s. (cells : List Cell)
         → IsEntry classes.now cells row sight entry → IsSlot classes.now cells s) }
@@ -68,7 +88,7 @@ fn slot_of(classes: &Classes, row: usize, sight: Sight, entry: Entry) -> Option<
         Some(reading) if reading.width <= 4 => Some(Slot {
             start,
             code: reading.code,
-            width: reading.width as u8,
+            width: reading.width as u32,
             after,
             entry,
         }),
@@ -82,7 +102,7 @@ pub struct Transitions {
     /// The classes.
     pub classes: Classes,
     /// The entries.
-    pub entries: Vec<Entry>,
+    pub entries: Vec<Transition>,
     /// The steps on all else, which need not be there.
     pub slots: Slots,
 }
@@ -117,8 +137,8 @@ impl Transitions {
     /// Makes room for the entries of a row.
     fn reserve(&mut self, row: usize) -> Result<(), AllocError>
         requires { row < 4_294_967_296 }
-        ensures same { (i : ℕ) → get_or self.new.entries.items i Entry.Unknown
-            ≡ get_or self.old.entries.items i Entry.Unknown }
+        ensures same { (i : ℕ) → get_or self.new.entries.items i unknown
+            ≡ get_or self.old.entries.items i unknown }
         ensures classes { self.new.classes ≡ self.old.classes }
         ensures slots { self.new.slots ≡ self.old.slots }
         ensures room { OnOk result (row * self.new.classes.width + self.new.classes.width
@@ -126,13 +146,13 @@ impl Transitions {
     {
         let wanted = row * self.classes.width + self.classes.width;
         if self.entries.len() < wanted {
-            self.entries.resize(wanted, Entry::Unknown)?;
+            self.entries.resize(wanted, Transition::unknown())?;
         }
         Ok(())
     }
 
     /// Puts in an entry of a row, on a character that stands for its class.
-    pub fn note(&mut self, row: usize, sight: Sight, entry: Entry) -> Result<(), AllocError>
+    pub fn note(&mut self, row: usize, sight: Sight, entry: Transition) -> Result<(), AllocError>
         requires { row < 4_294_967_296 }
         ensures told { (cells : List Cell) → AreTold cells self.old
             → IsEntry self.old.classes cells row sight entry → AreTold cells self.new }
@@ -152,7 +172,7 @@ impl Transitions {
         alloc: Global,
         row: usize,
         sight: Sight,
-        entry: Entry,
+        entry: Transition,
         steps: usize,
     ) -> Result<(), AllocError>
         requires { row < 65_536 }
@@ -177,7 +197,7 @@ pub struct View<'t> {
     /// The column of each character that has one.
     pub columns: &'t [u8],
     /// The entries.
-    pub entries: &'t [Entry],
+    pub entries: &'t [Transition],
     /// The steps on all else.
     pub slots: &'t [Slot],
     /// Which sides of a place are told apart.
@@ -196,7 +216,7 @@ impl<'t> View<'t> {
     /// What the table has of a column of a row, whose columns begin at `start` for what stands before, if it has that column: a loop
     /// reads of it what it goes by, and the rest where it ends.
     #[inline(always)]
-    pub fn entry(self, start: u32, column: u8) -> Option<&'t Entry>
+    pub fn entry(self, start: u32, column: u8) -> Option<&'t Transition>
         ensures { (cells : List Cell) (table : Transitions) (row : ℕ) (before : Side) (byte : ℕ)
             → IsView table self.entry → AreTold cells table
             → number_of before < sides_of table.classes.tests
@@ -213,7 +233,7 @@ impl<'t> View<'t> {
 
     /// What the table has of a column of a row, whose columns begin at `start` for what stands before.
     #[inline(always)]
-    pub fn at(self, start: u32, column: u8) -> Entry
+    pub fn at(self, start: u32, column: u8) -> Transition
         ensures { (cells : List Cell) (table : Transitions) (row : ℕ) (before : Side) (byte : ℕ)
             → IsView table self.entry → AreTold cells table
             → number_of before < sides_of table.classes.tests
@@ -223,14 +243,14 @@ impl<'t> View<'t> {
     {
         match self.entry(start, column) {
             Some(entry) => *entry,
-            None => Entry::Unknown,
+            None => Transition::unknown(),
         }
     }
 
     /// What the table has of a row, whose columns begin at `start` for what stands before, and a character past ASCII, with what stands
     /// after the place.
     #[inline(always)]
-    pub fn wide(self, start: u32, after: Side, reading: Reading) -> Option<&'t Entry>
+    pub fn wide(self, start: u32, after: Side, reading: Reading) -> Option<&'t Transition>
         ensures { (cells : List Cell) (table : Transitions) (row : ℕ) (before : Side)
             → IsView table self.entry → AreTold cells table
             → number_of before < sides_of table.classes.tests

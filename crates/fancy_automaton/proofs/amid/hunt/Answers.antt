@@ -1,19 +1,17 @@
-use Rattle.std.proofs.Common.{◌≡◌, ◌⊎◌, ◌∙◌, ◌<◌, ◌≤◌, ap, arith, length, refl, subst, sym, true, true≢false, Bor, List, ℕ, None, Some}
+use Rattle.std.proofs.Common.{◌≡◌, ◌∙◌, ◌<◌, ◌≤◌, ap, arith, length, refl, subst, sym, true, true≢false, List, ℕ, None, Some}
 use Rattle.std.specs.List.{list_all}
 use Rattle.std.specs.Prelude.{nat_lt, slice_get, slice_index}
 use Rattle.std.proofs.lemmas.Option.{IfSome_then, same_Some, slice_get-get_or}
-use Rattle.fancy_automaton.specs.Sole.{IsLed, IsSole, Reaches, stood}
+use Rattle.fancy_automaton.specs.Sole.{IsLed, IsSole}
 use Rattle.fancy_automaton.specs.declared.hop.Stand.{Stand}
 use Rattle.fancy_automaton.specs.declared.sole.Sole.{Sole}
 use Rattle.fancy_automaton.proofs.SoleLemmas.{led_found, led_quiet, quiet_entry, quiet_last, quiet_led}
-use Rattle.fancy_states.specs.Transitions.{IsEntry}
+use Rattle.fancy_states.specs.Transitions.{IsOfKind}
 use Rattle.fancy_states.specs.declared.cells.Cell.{Cell}
 use Rattle.fancy_states.specs.declared.origin.Origin.TheVariants.{Last}
-use Rattle.fancy_states.specs.declared.transitions.Entry.{Entry}
-use Rattle.fancy_states.specs.declared.transitions.Entry.TheVariants.{Mixed, Quiet}
-use Rattle.fancy_states.specs.declared.transitions.Transition.{Transition}
+use Rattle.fancy_states.specs.declared.transitions.Kind.{Kind}
 use Rattle.fancy_automaton.proofs.amid.hunt.Goals as goal
-use Rattle.fancy_automaton.proofs.amid.hunt.Goals.{in-Quiet, in-Quiet-2, in-Last, in_default}
+use Rattle.fancy_automaton.proofs.amid.hunt.Goals.{in-Last, in_default}
 
 pub returns-in-Matching : goal.returns-in-Matching
 returns-in-Matching c =
@@ -24,10 +22,11 @@ returns-in-Matching c =
     let is = led.here in
     let past = c.in_ok-told.told.past in
     let told = c.in_ok-told.ensures.told cells m.stand.begun c.view-table.ensures is.followed (record { bounded = is.kept; all = is.all }) is.good is.begins in
-    let found = subst (λ (e : Entry). IsEntry cells.table.classes cells.cells.items m.stand.begun told.0 e) c.in-Matching.is told.2 in
+    let step = c.in_ok-told.told.step.now in
+    let found = subst (λ (k : Kind). IsOfKind k cells.table.classes cells.cells.items m.stand.begun told.0 step) c.in-Matching.is told.2 in
     IfSome_then c.found_after.result c.found_after.ensures
     (λ s on. record {
-      sole = subst (IsSole a cells) (sym on.1) (led_found a cells m.stand past told.0 c.in-Matching.step told.1 m led refl found on.0);
+      sole = subst (IsSole a cells) (sym on.1) (led_found a cells m.stand past told.0 step told.1 m led refl found on.0);
       forth = omega (arith, told.1.forth, c.places.invariant.forth, ap (λ (s : Sole). s.stand.place) on.1);
     })
 
@@ -39,14 +38,9 @@ returns-then-matches c =
     let led = c.places.invariant.led in
     let is = led.here in
     let past = c.in_ok-told.told.past in
-    let step = c.match-told.step.now in
+    let step = c.in_ok-told.told.step.now in
     let told = c.in_ok-told.ensures.told cells m.stand.begun c.view-table.ensures is.followed (record { bounded = is.kept; all = is.all }) is.good is.begins in
-    let entry = c.in_ok-told.told.entry.now in
-    let quiet = quiet_entry cells.table.classes cells.cells.items m.stand.begun told.0 entry step
-    (elim c.match-told.branch [
-      | in-Quiet w ↦ subst (λ (t : Transition). (entry ≡ Quiet t) ⊎ (entry ≡ Mixed t)) (sym (ap (λ (t : Bor Transition). t.now) w.step-is)) w.in-Quiet.is
-      | in-Quiet-2 w ↦ subst (λ (t : Transition). (entry ≡ Quiet t) ⊎ (entry ≡ Mixed t)) (sym (ap (λ (t : Bor Transition). t.now) w.step-is)) w.in-Quiet.is
-    ]) told.2 in
+    let quiet = quiet_entry cells.table.classes cells.cells.items m.stand.begun told.0 step c.in-Quiet.is told.2 in
     let origin : step.origin ≡ Last = elim c.match-matches.branch [
       | in-Last w ↦ w.in-Last.is
       | in_default w ↦ absurd (true≢false (sym c.if-matches.true ∙ w.matches-is))
@@ -65,14 +59,9 @@ returns-then-led-len c =
     let led = c.places.invariant.led in
     let is = led.here in
     let past = c.in_ok-told.told.past in
-    let step = c.match-told.step.now in
+    let step = c.in_ok-told.told.step.now in
     let told = c.in_ok-told.ensures.told cells m.stand.begun c.view-table.ensures is.followed (record { bounded = is.kept; all = is.all }) is.good is.begins in
-    let entry = c.in_ok-told.told.entry.now in
-    let quiet = quiet_entry cells.table.classes cells.cells.items m.stand.begun told.0 entry step
-    (elim c.match-told.branch [
-      | in-Quiet w ↦ subst (λ (t : Transition). (entry ≡ Quiet t) ⊎ (entry ≡ Mixed t)) (sym (ap (λ (t : Bor Transition). t.now) w.step-is)) w.in-Quiet.is
-      | in-Quiet-2 w ↦ subst (λ (t : Transition). (entry ≡ Quiet t) ⊎ (entry ≡ Mixed t)) (sym (ap (λ (t : Bor Transition). t.now) w.step-is)) w.in-Quiet.is
-    ]) told.2 in
+    let quiet = quiet_entry cells.table.classes cells.cells.items m.stand.begun told.0 step c.in-Quiet.is told.2 in
     let cell = c.in_ok-cell.cell.now in
     let here : slice_get cells.cells.items step.cell ≡ Some cell = subst (λ (xs : List Cell). slice_get xs step.cell ≡ Some cell) c.deref.ensures.value
     (slice_get-get_or c.deref.result.now step.cell cell c.in_ok-cell.ensures.lookup.3.0 ∙ ap Some (sym c.in_ok-cell.ensures.lookup.1)) in
@@ -94,14 +83,9 @@ places-preserved c =
     let led = c.places.invariant.led in
     let is = led.here in
     let past = c.in_ok-told.told.past in
-    let step = c.match-told.step.now in
+    let step = c.in_ok-told.told.step.now in
     let told = c.in_ok-told.ensures.told cells m.stand.begun c.view-table.ensures is.followed (record { bounded = is.kept; all = is.all }) is.good is.begins in
-    let entry = c.in_ok-told.told.entry.now in
-    let quiet = quiet_entry cells.table.classes cells.cells.items m.stand.begun told.0 entry step
-    (elim c.match-told.branch [
-      | in-Quiet w ↦ subst (λ (t : Transition). (entry ≡ Quiet t) ⊎ (entry ≡ Mixed t)) (sym (ap (λ (t : Bor Transition). t.now) w.step-is)) w.in-Quiet.is
-      | in-Quiet-2 w ↦ subst (λ (t : Transition). (entry ≡ Quiet t) ⊎ (entry ≡ Mixed t)) (sym (ap (λ (t : Bor Transition). t.now) w.step-is)) w.in-Quiet.is
-    ]) told.2 in
+    let quiet = quiet_entry cells.table.classes cells.cells.items m.stand.begun told.0 step c.in-Quiet.is told.2 in
     let cell = c.in_ok-cell.cell.now in
     let here : slice_get cells.cells.items step.cell ≡ Some cell = subst (λ (xs : List Cell). slice_get xs step.cell ≡ Some cell) c.deref.ensures.value
     (slice_get-get_or c.deref.result.now step.cell cell c.in_ok-cell.ensures.lookup.3.0 ∙ ap Some (sym c.in_ok-cell.ensures.lookup.1)) in

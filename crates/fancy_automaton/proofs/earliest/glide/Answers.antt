@@ -1,12 +1,11 @@
-use Rattle.std.proofs.Common.{◌≡◌, ◌∙◌, ap, arith, Bor, option_map, refl, subst, sym}
+use Rattle.std.proofs.Common.{◌≡◌, ap, arith, option_map, refl, subst, sym}
 use Rattle.fancy_code.specs.Attempt.{context_in}
 use Rattle.fancy_alphabet.specs.Classes.{IsStart}
 use Rattle.fancy_automaton.specs.declared.hop.Stand.{Stand}
-use Rattle.fancy_states.specs.declared.transitions.Entry.{Entry}
-use Rattle.fancy_states.specs.declared.transitions.Entry.TheVariants.{Mixed, Quiet}
-use Rattle.fancy_states.specs.declared.transitions.Transition.{Transition}
-use Rattle.fancy_automaton.specs.Sole.{IsAmid, came_to}
-use Rattle.fancy_states.specs.Transitions.{IsEntry}
+use Rattle.fancy_states.specs.declared.transitions.Kind.{Kind}
+use Rattle.fancy_states.specs.declared.transitions.Kind.TheVariants.{Mixed}
+use Rattle.fancy_automaton.specs.Sole.{IsAmid, came_to, stood}
+use Rattle.fancy_states.specs.Transitions.{IsOfKind}
 use Rattle.fancy_automaton.proofs.SoleLemmas.{quiet_amid}
 use Rattle.fancy_automaton.proofs.earliest.glide.Goals as goal
 use Rattle.fancy_automaton.proofs.earliest.glide.Goals.{in-Quiet, in-Mixed, in-Mixed-2}
@@ -19,23 +18,18 @@ places-preserved c =
     let amid = c.places.invariant.amid in
     let is = amid.2 in
     let past = c.in-Some.told.past in
-    let step = c.match-told.step.now in
+    let step = c.in-Some.told.step.now in
     let seen = c.in-Some.ensures.told cells at.begun c.view-table.ensures is.followed (record { bounded = is.kept; all = is.all }) is.good
     (subst (IsStart (context_in a) at.place cells.table.classes at.begun) (sym c.places.invariant.row) is.begins) in
+    let mixed : step.kind ≡ Mixed → IsAmid a cells (stood past step) = λ is_mixed.
+    quiet_amid a cells at past seen.0 step seen.1 amid.0 amid.1 is (subst (λ (k : Kind). IsOfKind k cells.table.classes cells.cells.items at.begun seen.0 step) is_mixed seen.2) in
     record {
-      amid = elim c.match-told.branch [
+      amid = elim c.match-step.branch [
         | in-Quiet w ↦ (
-            let same : c.in-Some.told.entry.now ≡ Quiet step = w.in-Quiet.is ∙ ap Quiet (sym (ap (λ (t : Bor Transition). t.now) w.step-is)) in
-            let told = subst (λ (e : Entry). IsEntry cells.table.classes cells.cells.items at.begun seen.0 e) same seen.2 in
+            let told = subst (λ (k : Kind). IsOfKind k cells.table.classes cells.cells.items at.begun seen.0 step) w.in-Quiet.is seen.2 in
             quiet_amid a cells at past seen.0 step seen.1 amid.0 amid.1 is (told.0, told.1))
-        | in-Mixed w ↦ (
-            let same : c.in-Some.told.entry.now ≡ Mixed step = w.in-Mixed.is ∙ ap Mixed (sym (ap (λ (t : Bor Transition). t.now) w.step-is)) in
-            let told = subst (λ (e : Entry). IsEntry cells.table.classes cells.cells.items at.begun seen.0 e) same seen.2 in
-            quiet_amid a cells at past seen.0 step seen.1 amid.0 amid.1 is told)
-        | in-Mixed-2 w ↦ (
-            let same : c.in-Some.told.entry.now ≡ Mixed step = w.in-Mixed-2.is ∙ ap Mixed (sym (ap (λ (t : Bor Transition). t.now) w.step-is)) in
-            let told = subst (λ (e : Entry). IsEntry cells.table.classes cells.cells.items at.begun seen.0 e) same seen.2 in
-            quiet_amid a cells at past seen.0 step seen.1 amid.0 amid.1 is told)
+        | in-Mixed w ↦ mixed w.in-Mixed.is
+        | in-Mixed-2 w ↦ mixed w.in-Mixed-2.is
       ];
       row = refl;
       forth = omega (arith, c.places.invariant.forth, seen.1.forth);

@@ -1,6 +1,6 @@
 use Rattle.std.proofs.Common.{refl, subst}
-use Rattle.fancy_states.specs.Transitions.{IsEntry}
-use Rattle.fancy_states.specs.declared.transitions.Entry.{Entry}
+use Rattle.fancy_states.specs.Transitions.{IsOfKind}
+use Rattle.fancy_states.specs.declared.transitions.Kind.{Kind}
 use Rattle.fancy_automaton.specs.Sole.{stood}
 use Rattle.fancy_automaton.proofs.EarliestLemmas.{table_match, waits_at}
 use Rattle.fancy_automaton.proofs.SoleLemmas.{quiet_amid}
@@ -13,8 +13,9 @@ returns-in-Matching-clause-found c none =
     let at = c.args.at in
     let is = c.requires.amid.2 in
     let seen = c.in-Some.ensures.told cells at.begun c.view.ensures is.followed (record { bounded = is.kept; all = is.all }) is.good is.begins in
-    let told = subst (λ (e : Entry). IsEntry cells.table.classes cells.cells.items at.begun seen.0 e) c.in-Matching.is seen.2 in
-    table_match a cells at c.in-Some.told.past seen.0 c.in-Matching.field-0 seen.1 c.requires.amid told
+    let step = c.in-Some.told.step.now in
+    let told = subst (λ (k : Kind). IsOfKind k cells.table.classes cells.cells.items at.begun seen.0 step) c.in-Matching.is seen.2 in
+    table_match a cells at c.in-Some.told.past seen.0 step seen.1 c.requires.amid told
 
 pub returns-in-Some-quiet_step-clause-waits : goal.returns-in-Some-quiet_step-clause-waits
 returns-in-Some-quiet_step-clause-waits c =

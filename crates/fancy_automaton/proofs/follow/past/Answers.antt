@@ -1,6 +1,6 @@
 use Rattle.std.proofs.Common.{List, None, ap, arith, replicate, length, Option, Some, ℕ, subst, sym}
-use Rattle.fancy_states.specs.Transitions.{IsEntry}
-use Rattle.fancy_states.specs.declared.transitions.Entry.{Entry}
+use Rattle.fancy_states.specs.Transitions.{IsOfKind}
+use Rattle.fancy_states.specs.declared.transitions.Kind.{Kind}
 use Rattle.fancy_automaton.specs.declared.hop.Stand.{Stand}
 use Rattle.fancy_automaton.specs.Sole.{IsAt, IsSole, stood}
 use Rattle.fancy_states.specs.Trail.{match_from}
@@ -17,14 +17,15 @@ returns c =
     let is = here.1 in
     let past = c.in_ok-told.told.past in
     let seen = c.in_ok-told.ensures.told cells at.begun c.view-table.ensures is.followed (record { bounded = is.kept; all = is.all }) is.good is.begins in
-    let told = subst (λ (e : Entry). IsEntry cells.table.classes cells.cells.items at.begun seen.0 e) c.in-Matching.is seen.2 in
+    let step = c.in_ok-told.told.step.now in
+    let told = subst (λ (k : Kind). IsOfKind k cells.table.classes cells.cells.items at.begun seen.0 step) c.in-Matching.is seen.2 in
     record {
-      sole = subst (λ (st : Stand). IsSole a cells (record { stand = st; start = c.match-step.start; end = Some at.place })) (sym c.stand_after-2.ensures)
-          (elim c.match-step.branch [
-            | in-Last w ↦ subst (λ (s : ℕ). IsSole a cells (record { stand = stood past c.in-Matching.step; start = s; end = Some at.place })) (sym w.start-is)
-                (found_last a cells at past seen.0 c.in-Matching.step seen.1 here.0 _ is told w.in-Last.is)
-            | in-Earlier w ↦ subst (λ (s : ℕ). IsSole a cells (record { stand = stood past c.in-Matching.step; start = s; end = Some at.place })) (sym w.start-is)
-                (found_earlier a cells at past seen.0 c.in-Matching.step seen.1 here.0 c.args.at.start is told w.in-Earlier.is)
+      sole = subst (λ (st : Stand). IsSole a cells (record { stand = st; start = c.match-step-2.start; end = Some at.place })) (sym c.stand_after-2.ensures)
+          (elim c.match-step-2.branch [
+            | in-Last w ↦ subst (λ (s : ℕ). IsSole a cells (record { stand = stood past step; start = s; end = Some at.place })) (sym w.start-is)
+                (found_last a cells at past seen.0 step seen.1 here.0 _ is told w.in-Last.is)
+            | in-Earlier w ↦ subst (λ (s : ℕ). IsSole a cells (record { stand = stood past step; start = s; end = Some at.place })) (sym w.start-is)
+                (found_earlier a cells at past seen.0 step seen.1 here.0 c.args.at.start is told w.in-Earlier.is)
           ]);
       forth = omega (arith, seen.1.forth, ap (λ (st : Stand). st.place) c.stand_after-2.ensures);
     }

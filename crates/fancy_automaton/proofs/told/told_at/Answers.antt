@@ -7,8 +7,8 @@ use Rattle.fancy_alphabet.specs.Sides.{seen_as}
 use Rattle.fancy_automaton.proofs.HopLemmas.{sees_ascii}
 use Rattle.fancy_automaton.proofs.told.told_at.Goals as goal
 
-pub returns-in_ok-entry-in-Some-clause-told : goal.returns-in_ok-entry-in-Some-clause-told
-returns-in_ok-entry-in-Some-clause-told c cells row view followed holds good start =
+pub returns-in_ok-step-in-Some-clause-told : goal.returns-in_ok-step-in-Some-clause-told
+returns-in_ok-step-in-Some-clause-told c cells row view followed holds good start =
     let a = c.args.attempt.now in
     let p = c.args.place in
     let classes = cells.table.classes in
@@ -20,5 +20,5 @@ returns-in_ok-entry-in-Some-clause-told c cells row view followed holds good sta
       sees_ascii a classes p byte column start.0 followed holds.all.1 start.1 c.requires.before
           (slice_get-get_or a.haystack.now p 0 (omega (arith, c.requires.before, c.requires.inside)))
           (ap (λ (cs : List ℕ). slice_get cs byte) (sym view.columns) ∙ seen) good,
-      c.in_ok-entry-in-Some.ensures cells.cells.items cells.table row side byte view holds.bounded.told (seen_low classes.tests start.0) start.2 seen,
+      c.in_ok-step-in-Some.ensures cells.cells.items cells.table row side byte view holds.bounded.told (seen_low classes.tests start.0) start.2 seen,
     )

@@ -19,5 +19,5 @@ returns-clause-told c cells row view followed holds good start =
       sees_wide a classes p start.0 c.after.result r (get_or a.haystack.now p 0) (p + r.width) followed holds.all.1 start.1 next c.requires.before
           (slice_get-get_or a.haystack.now p 0 (omega (arith, c.requires.before, c.requires.inside))) c.if-attempt-place-lt128.false c.in_ok-reading.ensures.reading refl
           c.if-past-attempt.false good,
-      c.in_ok-entry.ensures cells.cells.items cells.table row side view holds.bounded.told (seen_low classes.tests start.0) start.2,
+      c.in_ok-step.ensures cells.cells.items cells.table row side view holds.bounded.told (seen_low classes.tests start.0) start.2,
     )

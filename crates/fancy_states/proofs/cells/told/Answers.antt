@@ -4,6 +4,6 @@ use Rattle.fancy_states.specs.declared.cells.Cell.{Cell}
 use Rattle.fancy_states.specs.Cells.{HasCell}
 use Rattle.fancy_states.proofs.cells.told.Goals as goal
 
-pub returns-in-Quiet : goal.returns-in-Quiet
-returns-in-Quiet c =
+pub returns : goal.returns
+returns c =
     subst (λ (cs : List Cell). IfSome c.tested_cell.result (λ k. HasCell cs k c.args.row c.args.sight)) c.deref.ensures.value c.tested_cell.ensures
