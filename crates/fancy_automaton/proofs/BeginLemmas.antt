@@ -7,7 +7,7 @@ use Rattle.fancy_code.specs.Attempt.{context_in, instrs_in, may_end_in}
 use Rattle.fancy_states.specs.Futures.{end_at, start_end}
 use Rattle.fancy_states.specs.Search.{Going, found_or, leftmost_in}
 use Rattle.fancy_states.specs.Steps.{first_tagged_end}
-use Rattle.fancy_states.specs.Trail.{match_from}
+use Rattle.fancy_states.specs.Starts.{match_from}
 use Rattle.fancy_states.specs.Ways.{Ends, tagged}
 use Rattle.fancy_automaton.specs.Decided.{BeginsFrom}
 

@@ -17,7 +17,7 @@ use Rattle.fancy_states.specs.Cells.{HasCell, HasRow, IsCell, row_if}
 use Rattle.fancy_states.specs.Origins.{ComeFrom}
 use Rattle.fancy_states.specs.Search.{Going, begun_if, found_or}
 use Rattle.fancy_states.specs.Steps.{IsStep, at_of, span_by, start_in}
-use Rattle.fancy_states.specs.Trail.{match_from}
+use Rattle.fancy_states.specs.Starts.{match_from}
 use Rattle.fancy_states.specs.Ways.{match_end}
 use Rattle.fancy_states.specs.declared.cells.Cell.{Cell}
 use Rattle.fancy_states.specs.declared.cells.Cells.{Cells}

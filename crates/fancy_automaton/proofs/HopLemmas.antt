@@ -1,32 +1,19 @@
 -- The inner loop of a search: a step that the table tells.
-use Rattle.std.proofs.Common.{◌≡◌, ℕ, suc, ◌+◌, ◌++◌, ◌∷◌, [], ◌<◌, ◌≤◌, inl, inr, true, List, Option, None, Some, sym, ap, ◌∙◌, subst, arith, length}
+use Rattle.std.proofs.Common.{◌≡◌, ℕ, suc, ◌+◌, ◌<◌, true, Option, None, Some, sym, ap, ◌∙◌, arith}
 use Rattle.std.specs.Prelude.{slice_get}
-use Rattle.std.specs.Global.{Vec}
-use Rattle.std.proofs.lemmas.Option.{slice_get_cases}
 use Rattle.fancy_input.specs.declared.span.Span.{Span}
 use Rattle.fancy_code.specs.declared.attempt.Attempt.{Attempt}
 use Rattle.fancy_code.specs.Attempt.{context_in, instrs_in, may_end_in}
 use Rattle.fancy_meaning.specs.Context.{Context}
 use Rattle.fancy_input.specs.Lines.{byte_before}
 use Rattle.fancy_meaning.proofs.ReadingLemmas.{low_unit}
-use Rattle.fancy_states.specs.declared.cells.Cell.{Cell}
-use Rattle.fancy_states.specs.declared.cells.Cells.{Cells}
-use Rattle.fancy_automaton.specs.declared.front.Front.{Front}
-use Rattle.fancy_states.specs.declared.trail.Hit.{Hit}
-use Rattle.fancy_states.specs.declared.trail.Visit.{Visit}
-use Rattle.fancy_states.specs.declared.transitions.Transition.{Transition}
 use Rattle.fancy_states.specs.Cells.{row_if}
 use Rattle.fancy_alphabet.specs.Classes.{AreClasses, IsStart, member_for, row_start, sight_for}
 use Rattle.fancy_alphabet.specs.Sides.{IsBefore, seen_as, side_of}
 use Rattle.fancy_alphabet.specs.declared.side.Side.{Side}
-use Rattle.fancy_alphabet.specs.declared.sight.Sight.{Sight}
 use Rattle.fancy_alphabet.specs.declared.classes.Classes.{Classes}
-use Rattle.fancy_automaton.specs.Front.{IsFront, found_of}
-use Rattle.fancy_states.specs.Search.{IsFollowed, Steady, begun_if}
-use Rattle.fancy_states.specs.Trail.{hit_or, and_start}
-use Rattle.fancy_states.specs.Transitions.{IsTransition}
+use Rattle.fancy_states.specs.Search.{IsFollowed, Steady}
 use Rattle.fancy_automaton.specs.Told.{Sees}
-use Rattle.fancy_automaton.proofs.FrontLemmas.{front_advanced, front_on}
 use Rattle.fancy_states.proofs.CellLemmas.{get_within}
 use Rattle.fancy_alphabet.proofs.SideLemmas.{low_side_before}
 use Rattle.fancy_alphabet.proofs.SightLemmas.{like_ascii}
@@ -73,24 +60,3 @@ sees_ascii a classes p byte c s followed are stands before here column good =
       good = ascii_leads a p byte before low here followed.steady good;
       begins = λ row start is. start_after a classes p byte row start are low here is;
     }
-
--- a step that the table tells
-pub front_hopped : (a : Attempt) (cells : Cells) (f : Front) (p past row : ℕ) (asked : Sight) (t : Transition) (start : Option ℕ) (visits : Vec Visit) (hit : Option Hit)
-    → p ≤ a.last → may_end_in a p ≡ true → IsFront a cells f p p → Sees a cells.table.classes p past asked → row ≡ row_if (found_of cells f) f.next f.begun
-    → IsTransition cells.table.classes cells.cells.items row asked t
-    → ((ss : List ℕ) → and_start start ss ≡ begun_if (found_of cells f) ss p)
-    → visits.items ≡ f.trail.visits.items ++ record { cell = t.cell; start = start } ∷ []
-    → ((d : Cell) → slice_get cells.cells.items t.cell ≡ Some d → hit ≡ hit_or f.hit d.matched (length f.trail.visits.items) p)
-    → IsFront a cells (record { next = t.next; begun = t.begun; trail = record { base = f.trail.base; visits = visits }; hit = hit }) past past
-front_hopped a cells f p past row asked t start visits hit within good is sees rowed told starts more found =
-    elim (slice_get_cases cells.cells.items t.cell).1 [
-      | inr past ↦ absurd (omega (arith, past.0, told.stands))
-      | inl there ↦ (
-          let d = there.0 in
-          let stood : slice_get cells.cells.items t.cell ≡ Some d = there.2 in
-          let moved = front_on a cells _ (p + 1) past (omega (arith, sees.within)) (front_advanced a cells cells f p row asked t.cell d start visits hit past
-          within good is rowed sees.like (record { bounded = is.kept; all = is.all }) (λ r v e. e) (λ k x e. e)
-          (d, stood, told.from d stood, told.on d stood) (sym there.3) starts more (found d stood) (sym (sees.like.width ∙ sees.width))) in
-          subst (λ (n : ℕ). IsFront a cells (record { next = n; begun = t.begun; trail = record { base = f.trail.base; visits = visits }; hit = hit }) past past) (told.next d stood)
-          (subst (λ (n : ℕ). IsFront a cells (record { next = d.next; begun = n; trail = record { base = f.trail.base; visits = visits }; hit = hit }) past past) (told.begun d stood) moved))
-    ]

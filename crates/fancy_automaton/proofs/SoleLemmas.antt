@@ -1,5 +1,5 @@
 -- Steps of a search whose ways that wait all began at one place.
-use Rattle.std.proofs.Common.{◌≡◌, ◌&&◌, ℕ, zero, suc, ◌+◌, ◌-◌, ◌<◌, ◌≤◌, ◌≢◌, ◌⊎◌, inl, inr, ◌++◌, ◌∷◌, [], Bool, true, List, Option, Some, None, refl, sym, ap, ap₂, ◌∙◌, subst, arith, length, map, replicate, take, length-append, option_map}
+use Rattle.std.proofs.Common.{◌≡◌, ◌&&◌, ℕ, zero, suc, ◌+◌, ◌-◌, ◌<◌, ◌≤◌, ◌≢◌, ◌⊎◌, inl, inr, ◌++◌, ◌∷◌, [], Bool, true, List, Option, Some, None, refl, sym, ap, ap₂, ◌∙◌, subst, arith, length, map, replicate, length-append}
 use Rattle.std.specs.Prelude.{slice_get, slice_index, nat_eq, nat_lt, is_some, IfSome}
 use Rattle.std.specs.List.{list_all}
 use Rattle.std.specs.Option.{option_or}
@@ -26,22 +26,19 @@ use Rattle.fancy_states.specs.declared.transitions.Transition.{Transition}
 use Rattle.fancy_states.specs.declared.way.Way.{Way}
 use Rattle.fancy_alphabet.specs.declared.classes.Classes.{Classes}
 use Rattle.fancy_states.specs.Cells.{HasRow, HasRows, IsCell, IsIdle, KeepsHolding, ways_at, row_if}
-use Rattle.fancy_automaton.specs.Front.{IsFront, Stands, front_at, found_of, starts_of, ways_of}
+use Rattle.fancy_automaton.specs.Front.{IsFront, Stands, ways_of}
 use Rattle.fancy_states.specs.Origins.{ComeFrom}
 use Rattle.fancy_states.specs.Search.{Going, begun_if, found_or}
-use Rattle.fancy_automaton.specs.Sole.{ComeFromFirst, IsAmid, IsAt, IsLed, IsLedOn, IsSole, KeepsFirst, StartsWith, stood}
-use Rattle.fancy_states.specs.Trail.{match_from}
-use Rattle.fancy_states.specs.Trail.{AllVisited, HitIn, found_at, known_hit, starts_after}
+use Rattle.fancy_automaton.specs.Sole.{ComeFromFirst, IsAmid, IsAt, IsLed, IsLedOn, IsSole, KeepsFirst, StartsWith, Waits, stood}
+use Rattle.fancy_states.specs.Starts.{found_after, match_from, starts_from}
 use Rattle.fancy_automaton.specs.declared.amid.Amid.{Amid}
 use Rattle.fancy_automaton.specs.declared.sole.Sole.{Sole}
 use Rattle.fancy_automaton.specs.declared.front.Front.{Front}
-use Rattle.fancy_states.specs.declared.trail.Hit.{Hit}
-use Rattle.fancy_states.specs.declared.trail.Visit.{Visit}
-use Rattle.fancy_automaton.proofs.FrontLemmas.{known_found, known_in}
+use Rattle.fancy_automaton.proofs.FrontLemmas.{found_first}
 use Rattle.fancy_states.specs.Steps.{IsStep, at_of, from_of, span_by, start_in}
 use Rattle.fancy_states.specs.Transitions.{IsEntry, IsMatching, IsOfKind, IsQuiet, IsTransition}
 use Rattle.fancy_states.specs.Ways.{match_end}
-use Rattle.fancy_states.proofs.CellLemmas.{cell_is, row_here, row_holds, row_ways}
+use Rattle.fancy_states.proofs.CellLemmas.{cell_is, row_here, row_holds, row_ways, starts_by}
 use Rattle.fancy_automaton.proofs.GoingLemmas.{going_on, going_same, going_step}
 use Rattle.fancy_automaton.specs.Told.{Sees}
 use Rattle.fancy_states.proofs.SearchLemmas.{no_items}
@@ -427,67 +424,76 @@ sole_kept a cells later s keeps rows classes is =
       },
     )
 
--- a search all of whose ways began at one place
-pub sole_front : (a : Attempt) (cells : Cells) (f : Front) (at : Stand) (p s : ℕ) (end : Option ℕ) → Stands a cells f p → starts_of cells f ≡ replicate (length (starts_of cells f)) s → found_of cells f ≡ match_from s end
-    → at.place ≡ p → at.next ≡ f.next → at.begun ≡ f.begun → IsStart (context_in a) p cells.table.classes at.begun at.opened
-    → IsSole a cells (record { stand = at; start = s; end = end })
-sole_front a cells f at p s end stands one found place next begun begins =
-    let is = stands.front in
-    let rows = cells.rows.lists.items in
-    let back = sym place in (
-      ways_of cells f,
-      record {
-        followed = is.followed;
-        kept = is.kept;
-        all = is.all;
-        waits = subst (λ (r : ℕ). HasRow rows r (ways_of cells f)) (sym next) is.waits;
-        opens = subst (λ (r : ℕ). HasRow rows r (ways_of cells f ++ a.code.now.start ∷ [])) (sym begun) is.opens;
-        going = subst (λ (q : ℕ). Going a (ways_of cells f) (replicate (length (ways_of cells f)) s) (match_from s end) q q) back
-            (going_same a _ _ _ _ _ _ p p p refl (one ∙ ap (λ (n : ℕ). replicate n s) is.going.even) found refl is.going);
-        begins = subst (λ (q : ℕ). IsStart (context_in a) q cells.table.classes at.begun at.opened) back begins;
-        good = subst (λ (q : ℕ). may_end_in a q ≡ true) back stands.good;
-        within = omega (arith, place, stands.within);
-      },
+-- a step that the table tells, wherever the ways began
+pub waits_on : (a : Attempt) (cells : Cells) (at : Stand) (starts : List ℕ) (found : Option Span) (row past : ℕ) (asked : Sight) (t : Transition) (d : Cell)
+    → Sees a cells.table.classes at.place past asked → Waits a cells at starts found → row ≡ row_if found at.next at.begun
+    → IsTransition cells.table.classes cells.cells.items row asked t → slice_get cells.cells.items t.cell ≡ Some d
+    → Waits a cells (stood past t) (starts_from (begun_if found starts at.place) d.came.items) (found_after found (begun_if found starts at.place) d.matched at.place)
+waits_on a cells at starts found row past asked t d sees is rowed told there =
+    let begun = begun_if found starts at.place in
+    let after = found_after found begun d.matched at.place in
+    let st = stepped a cells at is.0 starts found row past asked t d sees is.1 rowed told there after (found_first found begun d.matched at.place) in (
+      map at_of st.next,
+      subst (λ (ss : List ℕ). IsAt a cells (stood past t) (map at_of st.next) ss after) (sym (ap (starts_from begun) st.came ∙ starts_by begun st.next)) st.stands,
     )
 
--- the same search, told by where it stands
-pub front_stands : (a : Attempt) (cells : Cells) (f : Front) (at : Stand) (p : ℕ) → at.place ≡ p → at.next ≡ f.next → at.begun ≡ f.begun → Stands a cells f p
-    → Stands a cells (front_at at f.trail f.hit) at.place
-front_stands a cells f at p place next begun is =
-    subst (λ (q : ℕ). Stands a cells (front_at at f.trail f.hit) q) (sym place)
-    (subst (λ (n : ℕ). Stands a cells (record { next = n; begun = at.begun; trail = f.trail; hit = f.hit }) p) (sym next)
-    (subst (λ (b : ℕ). Stands a cells (record { next = f.next; begun = b; trail = f.trail; hit = f.hit }) p) (sym begun) is))
-
-take_none : (n : ℕ) (xs : List ℕ) → xs ≡ [] → take n xs ≡ []
-take_none zero xs e = refl
-take_none (suc n) [] e = refl
-take_none (suc n) (x ∷ xs) e = absurd (cc)
-
--- an empty list that is filled up
-pub filled : (old new : List ℕ) (n m s : ℕ) → old ≡ [] → m ≡ 0 → new ≡ take n old ++ replicate (n - m) s → new ≡ replicate n s
-filled old new n m s none size put =
-    let whole : n - m ≡ n = omega (arith, size) in
-    put ∙ ap₂ (λ (xs : List ℕ) (k : ℕ). xs ++ replicate k s) (take_none n old none) whole
-
--- and the search without a trail
-pub front_sole : (a : Attempt) (cells : Cells) (s : Sole) (base : Vec ℕ) (visits : Vec Visit) (hit : Option Hit) (n : ℕ) → IsSole a cells s → visits.items ≡ [] → base.items ≡ replicate n s.start
-    → n ≡ length (ways_at cells.rows.lists.items s.stand.next) → hit ≡ option_map known_hit (match_from s.start s.end)
-    → IsFront a cells (record { next = s.stand.next; begun = s.stand.begun; trail = record { base = base; visits = visits }; hit = hit }) s.stand.place s.stand.place
-front_sole a cells s base visits hit n is none based size same =
+-- where a search stands
+pub front_waits_at : (a : Attempt) (cells : Cells) (f : Front) (at : Stand) (p : ℕ) → Stands a cells f p
+    → at.place ≡ p → at.next ≡ f.next → at.begun ≡ f.begun → IsStart (context_in a) p cells.table.classes at.begun at.opened
+    → IsAt a cells at (ways_of cells f) f.starts.waiting.items f.found
+front_waits_at a cells f at p stands place next begun begins =
+    let is = stands.front in
     let rows = cells.rows.lists.items in
-    let at = is.1 in
-    let ways : ways_at rows s.stand.next ≡ is.0 = row_ways rows s.stand.next is.0 at.waits in
-    let starts : replicate (length is.0) s.start ≡ starts_after cells.cells.items base.items visits.items =
-    ap (λ (k : ℕ). replicate k s.start) (sym (size ∙ ap length ways)) ∙ sym based ∙ sym (ap (starts_after cells.cells.items base.items) none) in
-    let found : match_from s.start s.end ≡ found_at cells.cells.items base.items visits.items hit =
-    sym (known_found cells.cells.items base.items visits.items (match_from s.start s.end)) ∙ sym (ap (found_at cells.cells.items base.items visits.items) same) in
+    let back = sym place in
     record {
-      followed = at.followed;
-      kept = at.kept;
-      all = at.all;
-      waits = row_holds rows s.stand.next is.0 at.waits;
-      opens = subst (λ (ws : List ℕ). HasRow rows s.stand.begun (ws ++ a.code.now.start ∷ [])) (sym ways) at.opens;
-      going = going_same a _ _ _ _ _ _ _ _ s.stand.place (sym ways) starts found refl at.going;
-      visits = subst (AllVisited cells.cells.items) (sym none) tt;
-      hits = subst (HitIn visits.items) (sym same) (known_in visits.items (match_from s.start s.end));
+      followed = is.followed;
+      kept = is.kept;
+      all = is.all;
+      waits = subst (λ (r : ℕ). HasRow rows r (ways_of cells f)) (sym next) is.waits;
+      opens = subst (λ (r : ℕ). HasRow rows r (ways_of cells f ++ a.code.now.start ∷ [])) (sym begun) is.opens;
+      going = subst (λ (q : ℕ). Going a (ways_of cells f) f.starts.waiting.items f.found q q) back is.going;
+      begins = subst (λ (q : ℕ). IsStart (context_in a) q cells.table.classes at.begun at.opened) back begins;
+      good = subst (λ (q : ℕ). may_end_in a q ≡ true) back stands.good;
+      within = omega (arith, place, stands.within);
     }
+
+-- a search all of whose ways began at one place
+pub sole_front : (a : Attempt) (cells : Cells) (f : Front) (at : Stand) (p s : ℕ) (end : Option ℕ) → Stands a cells f p
+    → f.starts.waiting.items ≡ replicate (length f.starts.waiting.items) s → f.found ≡ match_from s end
+    → at.place ≡ p → at.next ≡ f.next → at.begun ≡ f.begun → IsStart (context_in a) p cells.table.classes at.begun at.opened
+    → IsSole a cells (record { stand = at; start = s; end = end })
+sole_front a cells f at p s end stands one found place next begun begins = (
+  ways_of cells f,
+  subst (λ (o : Option Span). IsAt a cells at (ways_of cells f) (replicate (length (ways_of cells f)) s) o) found
+      (subst (λ (ss : List ℕ). IsAt a cells at (ways_of cells f) ss f.found) (one ∙ ap (λ (n : ℕ). replicate n s) stands.front.going.even)
+      (front_waits_at a cells f at p stands place next begun begins)),
+)
+
+-- and back
+pub waits_front : (a : Attempt) (cells : Cells) (f : Front) (at : Stand) → f.next ≡ at.next → f.begun ≡ at.begun
+    → Waits a cells at f.starts.waiting.items f.found → IsFront a cells f at.place at.place
+waits_front a cells f at next begun is =
+    let rows = cells.rows.lists.items in
+    let here = is.1 in
+    let leads : HasRow rows f.next is.0 = subst (λ (r : ℕ). HasRow rows r is.0) (sym next) here.waits in
+    let ways : ways_of cells f ≡ is.0 = row_ways rows f.next is.0 leads in
+    record {
+      followed = here.followed;
+      kept = here.kept;
+      all = here.all;
+      waits = row_holds rows f.next is.0 leads;
+      opens = subst (λ (ws : List ℕ). HasRow rows f.begun (ws ++ a.code.now.start ∷ [])) (sym ways)
+          (subst (λ (r : ℕ). HasRow rows r (is.0 ++ a.code.now.start ∷ [])) (sym begun) here.opens);
+      going = going_same a _ _ _ _ _ _ _ _ at.place (sym ways) refl refl refl here.going;
+    }
+
+pub front_sole : (a : Attempt) (cells : Cells) (s : Sole) (f : Front) (n : ℕ) → IsSole a cells s → f.next ≡ s.stand.next → f.begun ≡ s.stand.begun
+    → f.starts.waiting.items ≡ replicate n s.start → n ≡ length (ways_at cells.rows.lists.items s.stand.next) → f.found ≡ match_from s.start s.end
+    → IsFront a cells f s.stand.place s.stand.place
+front_sole a cells s f n is next begun starts size found =
+    let ways = row_ways cells.rows.lists.items s.stand.next is.0 is.1.waits in
+    waits_front a cells f s.stand next begun (
+      is.0,
+      subst (λ (o : Option Span). IsAt a cells s.stand is.0 f.starts.waiting.items o) (sym found)
+          (subst (λ (ss : List ℕ). IsAt a cells s.stand is.0 ss (match_from s.start s.end)) (sym (starts ∙ ap (λ (k : ℕ). replicate k s.start) (size ∙ ap length ways))) is.1),
+    )

@@ -20,7 +20,7 @@ use Rattle.fancy_automaton.specs.Decided.{Decided, Goal, IsDecided, IsPlaced, Op
 use Rattle.fancy_states.specs.Futures.{end_at, start_end}
 use Rattle.fancy_states.specs.Search.{BegunIn, Going, IsFollowed, Passes, ends_in}
 use Rattle.fancy_automaton.specs.Sole.{IsSole, stood}
-use Rattle.fancy_states.specs.Trail.{match_from}
+use Rattle.fancy_states.specs.Starts.{match_from}
 use Rattle.fancy_states.specs.Steps.{first_tagged_end}
 use Rattle.fancy_states.specs.Transitions.{IsMatching, IsQuiet, IsTransition}
 use Rattle.fancy_states.specs.Ways.{tagged}

@@ -11,7 +11,7 @@ use Rattle.fancy_automaton.specs.declared.amid.Amid.{Amid}
 use Rattle.fancy_automaton.specs.declared.sole.Sole.{Sole}
 use Rattle.fancy_automaton.specs.declared.hop.Stand.{Stand}
 use Rattle.fancy_states.specs.declared.transitions.Transition.{Transition}
-use Rattle.fancy_states.specs.Trail.{match_from}
+use Rattle.fancy_states.specs.Starts.{match_from}
 use Rattle.fancy_states.specs.Cells.{IsBounded, IsFor, HasRow}
 use Rattle.fancy_states.specs.Search.{Going, IsFollowed}
 
@@ -43,6 +43,10 @@ pub record IsAt (a : Attempt) (cells : Cells) (at : Stand) (ways starts : List �
 -- nothing was found, and wherever the ways began
 abbrev pub IsAmid : Attempt → Cells → Stand → Type 0
 IsAmid a cells at = (ways : List ℕ) × (starts : List ℕ) × IsAt a cells at ways starts None
+
+-- these ways wait, which began at these places, and this was found
+abbrev pub Waits : Attempt → Cells → Stand → List ℕ → Option Span → Type 0
+Waits a cells at starts found = (ways : List ℕ) × IsAt a cells at ways starts found
 
 -- so many of the first ways began there
 abbrev pub StartsWith : List ℕ → ℕ → ℕ → Type 0

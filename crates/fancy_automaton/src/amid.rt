@@ -11,7 +11,6 @@ use crate::told::told_at;
 use fancy_code::attempt::Attempt;
 use fancy_states::cells::{Cell, Cells};
 use fancy_states::origin::Origin;
-use fancy_states::trail::VISITS;
 use fancy_states::transitions::{Kind, Transition};
 
 /// A search whose ways that wait may have begun at several places, where nothing was found.
@@ -83,17 +82,17 @@ fn found_after(cells: &Cells, at: Amid, past: usize, step: Transition) -> Option
     })
 }
 
-/// The next place at which all ways that wait began at one place again, if the table leads there, and within as many places as a trail
-/// has: those are passed once more with a trail where it does not. So no place is passed many times.
+/// The next place at which all ways that wait began at one place again, if the table leads there. Where it does not, as where a match is
+/// found of a way that is not known to have begun there, the steps up to there are taken once more with the starts of all ways (`run`). So no
+/// place is passed many times.
 #[inline(always)]
 pub(crate) fn hunt(attempt: &Attempt, cells: &Cells, from: Amid) -> Option<Sole>
     requires led { IsLed attempt.now cells.now from }
     ensures { IfSome result (Reaches attempt.now cells.now (from.stand.place + 1)) }
 {
     let table = cells.table.view();
-    let limit = attempt.last.min(from.stand.place.saturating_add(VISITS));
     let mut at = from;
-    'places: while at.stand.place < limit {
+    'places: while at.stand.place < attempt.last {
         let told = told_at(attempt, table, at.stand.opened, at.stand.place, false)?;
         let step = told.step;
         match step.kind {

@@ -13,14 +13,13 @@ ghost use Rattle.fancy_states.specs.Search.{Passes, IsFollowed};
 use crate::follow::lengthen;
 use crate::front::place_after;
 use crate::hop::{Stand, row_start};
-use crate::sole::Sole;
+use crate::sole::{Sole, span_from};
 use fancy_code::attempt::Attempt;
 use fancy_input::span::Span;
 use fancy_input::work::Work;
 use fancy_meaning::options::is_match_boundary;
 use fancy_states::cells::{Cells, has_origin, origin, restart, seen_at, step_at};
 use fancy_states::rows::Target;
-use fancy_states::trail::span_from;
 use std::alloc::AllocError;
 
 /// An attempt that is told by remembered steps alone reads on at most so many bytes past its match.

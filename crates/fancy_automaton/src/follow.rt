@@ -1,4 +1,4 @@
-//! The inner loops of a search, where all ways that wait began at one place: no trail is needed there.
+//! The inner loops of a search, where it is known where all ways began that wait, since that is one place.
 
 ghost use Rattle.std.specs.Prelude.{◌≡◌, ◌+◌, ◌<◌, ◌≤◌, None, IfSome, is_some, length, option_map, true};
 ghost use Rattle.fancy_states.specs.Cells.{HoldsFor, IsIdle};
@@ -10,7 +10,7 @@ ghost use Rattle.fancy_automaton.specs.Decided.{Goal, IsDecided, IsPlaced, Opens
 use crate::amid::{Amid, hunt};
 use crate::hop::{Stand, ahead_of, idle_row, stand_after};
 use crate::sole::Sole;
-use crate::told::{quiet_step, told_at};
+use crate::told::{is_wide_at, quiet_step, told_at};
 use fancy_code::attempt::Attempt;
 use fancy_meaning::options::is_match_boundary;
 use fancy_prefilter::candidates::{next_candidate, next_opening};
@@ -353,4 +353,20 @@ pub(crate) fn follow_any(attempt: &Attempt, cells: &Cells, from: Sole) -> Sole
         return at;
     }
     lengthen(attempt, cells, at, true)
+}
+
+/// Takes steps that the table tells, from a place on at which a match may begin.
+#[inline(always)]
+pub(crate) fn walk(attempt: &Attempt, cells: &Cells, from: Sole) -> Sole
+    requires sole { IsSole attempt.now cells.now from }
+    ensures reaches { Reaches attempt.now cells.now from.stand.place result }
+{
+    let mut to = from;
+    if !is_wide_at(attempt, to.stand.place) {
+        to = follow(attempt, cells, to);
+    }
+    if is_wide_at(attempt, to.stand.place) && !to.is_over(cells) {
+        to = follow_any(attempt, cells, to);
+    }
+    to
 }

@@ -6,18 +6,17 @@ ghost use Rattle.fancy_alphabet.specs.Classes.{IsStart};
 ghost use Rattle.fancy_code.specs.CodeLength.{code_len};
 ghost use Rattle.fancy_meaning.specs.Reading.{unit_read};
 ghost use Rattle.fancy_code.specs.declared.attempt.Attempt.{Attempt};
-ghost use Rattle.fancy_states.specs.Cells.{HasPlace, KeepsHolding, HoldsFor};
-ghost use Rattle.fancy_states.specs.Trail.{HitIn, most_visits};
-ghost use Rattle.fancy_automaton.specs.Front.{IsFront, ways_of, found_of, KeepsFront, Stands, GoesOn, TakesStep};
+ghost use Rattle.fancy_states.specs.Cells.{HasPlace, KeepsHolding, HoldsFor, row_if};
+ghost use Rattle.fancy_automaton.specs.Front.{IsFront, ways_of, Stands, GoesOn, TakesStep};
 ghost use Rattle.fancy_automaton.specs.Sole.{IsSole};
 ghost use Rattle.fancy_alphabet.specs.Units.{place_after};
 ghost use Rattle.fancy_states.specs.Counts.{AddsSteps};
 
-use crate::follow::{follow, follow_any, next_start};
+use crate::follow::{next_start, walk};
 use crate::hop::{Stand, row_start, run};
-use crate::sole::Sole;
-use crate::told::{is_wide_at, told_at};
-use fancy_alphabet::sight::{Sight, ascii_at};
+use crate::sole::{Sole, span_from};
+use crate::told::told_at;
+use fancy_alphabet::sight::ascii_at;
 use fancy_code::attempt::Attempt;
 use fancy_code::code::Code;
 use fancy_input::span::Span;
@@ -25,10 +24,7 @@ use fancy_input::work::Work;
 use fancy_meaning::options::is_match_boundary;
 use fancy_meaning::reading::Reading;
 use fancy_states::cells::{Cells, is_told, restart, seen_at, step_at};
-use fancy_states::trail::{
-    Hit, Trail, VISITS, Visit, hit_from, note_hit, row_at, settled, shared_start, span_of,
-    start_at, starts_in,
-};
+use fancy_states::starts::Starts;
 use fancy_states::transitions::Kind;
 use std::alloc::AllocError;
 use std::mem;
@@ -40,46 +36,44 @@ pub struct Front {
     pub next: usize,
     /// That row with one more way, which begins there.
     pub begun: usize,
-    /// The steps that were taken.
-    pub trail: Trail,
+    /// Where the ways began that wait.
+    pub starts: Starts,
     /// The match that was found, to which only the ways that wait are preferred.
-    pub hit: Option<Hit>,
+    pub found: Option<Span>,
 }
 
 impl Front {
     ghost use Rattle.std.specs.Prelude.{None, false, ◌≢◌};
 
-    /// Where a walk without a trail ended.
+    /// Where a walk ended.
     pub fn new(cells: &mut Cells, from: Sole) -> Result<Front, AllocError>
         requires { from.stand.next < length cells.old.rows.lists.items }
         ensures kept { KeepsHolding cells.old cells.new }
         ensures front { IfOk result (λ f. (a : Attempt) → IsSole a cells.old from
             → IsFront a cells.new f from.stand.place from.stand.place) }
     {
-        let trail = mem::replace(&mut cells.spare, Trail::new(cells.alloc));
+        let starts = mem::replace(&mut cells.spare, Starts::new(cells.alloc));
         let mut front = Front {
             next: from.stand.next,
             begun: from.stand.begun,
-            trail,
-            hit: None,
+            starts,
+            found: None,
         };
         front.rest(cells, from)?;
         Ok(front)
     }
 
-    /// Goes on from where a walk without a trail ended.
+    /// Goes on from where a walk ended.
     fn rest(&mut self, cells: &Cells, from: Sole) -> Result<(), AllocError>
         requires { from.stand.next < length cells.now.rows.lists.items }
-        ensures visits { self.new.trail.visits.items ≡ [] }
         ensures front { OnOk result ((a : Attempt) → IsSole a cells.now from
             → IsFront a cells.now self.new from.stand.place from.stand.place) }
     {
         let waiting = cells.rows.lists[from.stand.next].len();
-        self.trail.clear();
-        self.trail.base.resize(waiting, from.start)?;
+        self.starts.fill(waiting, from.start)?;
         self.next = from.stand.next;
         self.begun = from.stand.begun;
-        self.hit = hit_from(from.start, from.end);
+        self.found = span_from(from.start, from.end);
         Ok(())
     }
 
@@ -95,10 +89,10 @@ impl Front {
     /// Whether the search is over before the last place: something was found, and no way waits.
     pub fn is_over(&self, cells: &Cells) -> bool
         requires row { self.now.next < length cells.now.rows.lists.items }
-        ensures found { result ≡ true → is_some self.now.hit ≡ true }
+        ensures found { result ≡ true → is_some self.now.found ≡ true }
         ensures over { result ≡ true → ways_of cells.now self.now ≡ [] }
     {
-        if self.hit.is_none() {
+        if self.found.is_none() {
             return false;
         }
         !self.has_waiting(cells)
@@ -106,51 +100,30 @@ impl Front {
 
     /// Ends a search that stops reading at a place, a byte offset: what it found.
     pub fn end(self, cells: &mut Cells, place: usize) -> Option<Span>
-        requires hits { HitIn self.trail.visits.items self.hit }
-        ensures found { result ≡ found_of cells.old self }
+        ensures found { result ≡ self.found }
         ensures kept { KeepsHolding cells.old cells.new }
     {
-        let found = span_of(&cells.cells, &self.trail, self.hit);
         cells.reached = place;
-        cells.spare = self.trail;
-        found
+        cells.spare = self.starts;
+        self.found
     }
 
-    /// Forgets the trail: where the ways began that wait, and the match that was found, is read from it first.
-    fn settle(&mut self, cells: &Cells) -> Result<(), AllocError>
-        requires hits { HitIn self.old.trail.visits.items self.old.hit }
-        ensures row { self.new.next ≡ self.old.next }
-        ensures visits { OnOk result (self.new.trail.visits.items ≡ []) }
-        ensures front { OnOk result (KeepsFront cells.now self.old self.new) }
+    /// The row of a place: where nothing was found, one more way begins there.
+    fn row(&self) -> usize
+        ensures { result ≡ row_if self.now.found self.now.next self.now.begun }
     {
-        let starts = starts_in(cells.alloc, &cells.cells, &self.trail)?;
-        self.hit = settled(&cells.cells, &self.trail, self.hit);
-        self.trail.base = starts;
-        self.trail.visits.clear();
-        Ok(())
-    }
-
-    /// Forgets a trail that is as long as it may be.
-    fn shorten(&mut self, cells: &Cells) -> Result<(), AllocError>
-        requires hits { HitIn self.old.trail.visits.items self.old.hit }
-        ensures visits { OnOk result (length self.new.trail.visits.items < most_visits) }
-        ensures front { OnOk result (KeepsFront cells.now self.old self.new) }
-    {
-        if self.trail.visits.len() < VISITS {
-            return Ok(());
+        match self.found {
+            None => self.begun,
+            Some(_) => self.next,
         }
-        self.settle(cells)
     }
 
     /// Forgets all but the row of the ways that wait, where one more step may be one too many.
     fn make_place(&mut self, code: &Code, cells: &mut Cells) -> Result<(), AllocError>
         requires row { self.old.next < length cells.old.rows.lists.items }
-        requires hits { HitIn self.old.trail.visits.items self.old.hit }
         requires kept { HoldsFor cells.old code.now }
         ensures kept { HoldsFor cells.new code.now }
         ensures place { OnOk result (HasPlace cells.new) }
-        ensures visits { OnOk result (length self.old.trail.visits.items < most_visits
-            → length self.new.trail.visits.items < most_visits) }
         ensures front { OnOk result ((a : Attempt) (place resume : ℕ) → a.code.now ≡ code.now
             → IsFront a cells.old self.old place resume
             → IsFront a cells.new self.new place resume) }
@@ -158,26 +131,10 @@ impl Front {
         if !cells.is_full() {
             return Ok(());
         }
-        self.settle(cells)?;
         let target = restart(cells, code.start, self.next)?;
         self.next = target.next;
         self.begun = target.begun;
         Ok(())
-    }
-
-    /// Forgets the trail where nothing was found and no way waits: no step of it is asked any more.
-    fn forget_idle(&mut self, cells: &Cells)
-        requires row { self.old.next < length cells.now.rows.lists.items }
-        ensures visits { length self.new.trail.visits.items ≤ length self.old.trail.visits.items }
-        ensures front { KeepsFront cells.now self.old self.new }
-    {
-        if self.hit.is_some() {
-            return;
-        }
-        if self.has_waiting(cells) {
-            return;
-        }
-        self.trail.clear();
     }
 
     /// Takes the step at a place, where a way begins unless something was found. The answer is the place where the ways wait
@@ -191,25 +148,21 @@ impl Front {
     ) -> Result<usize, AllocError>
         requires stands { Stands attempt.now cells.old self.old place }
         requires place { HasPlace cells.old }
-        requires visits { length self.old.trail.visits.items < most_visits }
         ensures step { TakesStep attempt.now cells.new place result self.new }
         ensures kept { HoldsFor cells.new attempt.now.code.now }
         ensures counts { AddsSteps (code_len attempt.now.code.now) work.old work.new }
     {
-        let row = row_at(self.hit, self.next, self.begun);
-        let start = start_at(self.hit, place);
+        let row = self.row();
         let sight = seen_at(attempt, cells, place);
         let k = step_at(attempt.code, cells, row, sight, work)?;
         let cell = &cells.cells[k];
-        note_hit(&mut self.hit, cell.matched, self.trail.visits.len(), place);
+        self.starts.step(cell, place, &mut self.found)?;
         self.next = cell.next;
         self.begun = cell.begun;
-        self.trail.visits.push(Visit { cell: k, start })?;
         Ok(place_after(place, sight.reading, attempt.last))
     }
 
-    /// Takes the step at a place, with room for it made before, and what is not asked any more forgotten after it. The answer is
-    /// the place where the ways wait then, a byte offset.
+    /// Takes the step at a place, with room for it made before. The answer is the place where the ways wait then, a byte offset.
     fn advance(
         &mut self,
         attempt: &Attempt,
@@ -222,10 +175,8 @@ impl Front {
         ensures kept { HoldsFor cells.new attempt.now.code.now }
         ensures counts { AddsSteps (code_len attempt.now.code.now) work.old work.new }
     {
-        self.shorten(cells)?;
         self.make_place(attempt.code, cells)?;
         let resume = self.step(attempt, cells, place, work)?;
-        self.forget_idle(cells);
         Ok(resume)
     }
 
@@ -253,10 +204,15 @@ impl Front {
         ensures sole { IfSome result (λ s. IsSole attempt.now cells.now s) }
         ensures stand { IfSome result (λ s. s.stand.place ≡ place) }
     {
-        let start = shared_start(&cells.cells, &self.trail, self.hit, place)?;
-        let end = match self.hit {
+        let start = self.starts.shared(place)?;
+        let end = match self.found {
             None => None,
-            Some(hit) => Some(hit.end),
+            Some(found) => {
+                if found.start != start {
+                    return None;
+                }
+                Some(found.end)
+            }
         };
         Some(Sole {
             stand: self.stand(attempt, cells, place),
@@ -265,8 +221,8 @@ impl Front {
         })
     }
 
-    /// Takes steps on ASCII characters that the table tells, as long as all ways that wait began at one place. The answer is the
-    /// place where the ways wait then, a byte offset.
+    /// Takes steps that the table tells, as long as all ways that wait began at one place. The answer is the place where the ways wait
+    /// then, a byte offset.
     fn follow(
         &mut self,
         attempt: &Attempt,
@@ -274,32 +230,14 @@ impl Front {
         place: usize,
     ) -> Result<usize, AllocError>
         requires stands { Stands attempt.now cells.now self.old place }
-        ensures { GoesOn attempt.now cells.now self.old place attempt.now.last result self.new }
+        ensures { GoesOn attempt.now cells.now place result self.new }
     {
         let Some(sole) = self.sole(attempt, cells, place) else {
             return Ok(place);
         };
-        let to = if is_wide_at(attempt, place) {
-            follow_any(attempt, cells, sole)
-        } else {
-            follow(attempt, cells, sole)
-        };
+        let to = walk(attempt, cells, sole);
         self.rest(cells, to)?;
         Ok(to.stand.place)
-    }
-
-    /// Takes steps on ASCII characters that the table tells, wherever the ways began that wait. The answer is the place where the
-    /// ways wait then, a byte offset.
-    fn run(&mut self, attempt: &Attempt, cells: &Cells, place: usize) -> Result<usize, AllocError>
-        requires stands { Stands attempt.now cells.now self.old place }
-        ensures { GoesOn attempt.now cells.now self.old place attempt.now.last result self.new }
-    {
-        let from = self.stand(attempt, cells, place);
-        let to = run(attempt, cells, from, &mut self.trail, &mut self.hit)?;
-        self.next = to.next;
-        self.begun = to.begun;
-        self.forget_idle(cells);
-        Ok(to.place)
     }
 
     /// Whether the table tells the step at a place.
@@ -309,27 +247,48 @@ impl Front {
         if place >= attempt.last {
             return false;
         }
-        let row = row_at(self.hit, self.next, self.begun);
-        let start = row_start(attempt, cells, place, row);
+        let start = row_start(attempt, cells, place, self.row());
         match told_at(attempt, cells.table.view(), start, place, true) {
             None => false,
             Some(told) => !matches!(told.step.kind, Kind::Unknown),
         }
     }
 
-    /// Takes steps on ASCII characters that the table tells. The answer is the place where the ways wait then, a byte offset.
+    /// Takes steps that the table tells where some way waits, wherever the ways began. The answer is the place where the ways wait then, a
+    /// byte offset.
+    pub fn run(
+        &mut self,
+        attempt: &Attempt,
+        cells: &Cells,
+        place: usize,
+    ) -> Result<usize, AllocError>
+        requires front { IsFront attempt.now cells.now self.old place place }
+        requires within { place ≤ attempt.now.last }
+        ensures { GoesOn attempt.now cells.now place result self.new }
+    {
+        if !self.has_waiting(cells) {
+            return Ok(place);
+        }
+        if !self.is_told(attempt, cells, place) {
+            return Ok(place);
+        }
+        let from = self.stand(attempt, cells, place);
+        let to = run(attempt, cells, from, &mut self.starts, &mut self.found)?;
+        self.next = to.next;
+        self.begun = to.begun;
+        Ok(to.place)
+    }
+
+    /// Takes steps that the table tells. The answer is the place where the ways wait then, a byte offset.
     fn hop(&mut self, attempt: &Attempt, cells: &Cells, place: usize) -> Result<usize, AllocError>
         requires stands { Stands attempt.now cells.now self.old place }
-        ensures { GoesOn attempt.now cells.now self.old place attempt.now.last result self.new }
+        ensures { GoesOn attempt.now cells.now place result self.new }
     {
         if !self.is_told(attempt, cells, place) {
             return Ok(place);
         }
         let followed = self.follow(attempt, cells, place)?;
-        if followed > place {
-            return Ok(followed);
-        }
-        let reached = self.run(attempt, cells, place)?;
+        let reached = self.run(attempt, cells, followed)?;
         Ok(reached)
     }
 

@@ -1,23 +1,18 @@
 //! The inner loop of a search: steps by the table.
 
-ghost use Rattle.std.specs.Prelude.{◌≡◌, ◌<◌, ◌≤◌, ℕ, List, Some, None, IfOk, IfSome, length, slice_get};
+ghost use Rattle.std.specs.Prelude.{◌≡◌, ◌<◌, ◌≤◌, IfOk, length};
 ghost use Rattle.fancy_code.specs.Attempt.{context_in};
 ghost use Rattle.fancy_states.specs.Cells.{IsBounded, IsIdle, row_if};
-ghost use Rattle.fancy_automaton.specs.Front.{IsFront, front_at, Stands};
-ghost use Rattle.fancy_automaton.specs.Sole.{stood};
-ghost use Rattle.fancy_states.specs.Trail.{found_in_trail, hit_or, most_visits};
-ghost use Rattle.fancy_states.specs.declared.trail.Trail.{Trail};
+ghost use Rattle.fancy_automaton.specs.Sole.{Waits, stood};
 ghost use Rattle.fancy_alphabet.specs.Classes.{IsStart};
-ghost use Rattle.fancy_states.specs.Transitions.{IsEntry, IsTransition};
-ghost use Rattle.fancy_alphabet.specs.declared.sight.Sight.{Sight};
-ghost use Rattle.fancy_states.specs.declared.cells.Cell.{Cell};
 
-use crate::told::told_at;
+use crate::told::{known_step, told_at};
 use fancy_code::attempt::Attempt;
+use fancy_input::span::Span;
 use fancy_states::cells::Cells;
 use fancy_states::rows::Target;
-use fancy_states::trail::{Hit, Trail, VISITS, Visit, note_hit, start_at};
-use fancy_states::transitions::{Kind, Transition};
+use fancy_states::starts::Starts;
+use fancy_states::transitions::Transition;
 use std::alloc::AllocError;
 
 /// Where a search stands.
@@ -71,36 +66,6 @@ pub(crate) fn ahead_of(attempt: &Attempt, cells: &Cells, at: Stand) -> u32
     (next + (at.opened as usize - begun)) as u32
 }
 
-/// Notes the match that a step finds at a place, if it finds one. The answer is the step, if it is remembered.
-#[inline(always)]
-fn step_of(
-    step: Transition,
-    cells: &Cells,
-    hit: &mut Option<Hit>,
-    visits: usize,
-    place: usize,
-) -> Option<Transition>
-    ensures none { result ≡ None → hit.new ≡ hit.old }
-    ensures unknown { step.kind ≡ Kind.Unknown → result ≡ None }
-    ensures told { (row : ℕ) (sight : Sight)
-        → IsEntry cells.now.table.classes cells.now.cells.items row sight step
-        → IfSome result (IsTransition cells.now.table.classes cells.now.cells.items row sight) }
-    ensures found { (row : ℕ) (sight : Sight)
-        → IsEntry cells.now.table.classes cells.now.cells.items row sight step
-        → IfSome result (λ t. (c : Cell) → slice_get cells.now.cells.items t.cell ≡ Some c
-        → hit.new ≡ hit_or hit.old c.matched visits place) }
-{
-    match step.kind {
-        Kind::Unknown => None,
-        Kind::Quiet | Kind::Mixed => Some(step),
-        Kind::Matching => {
-            let cell = cells.cells.get(step.cell as usize)?;
-            note_hit(hit, cell.matched, visits, place);
-            Some(step)
-        }
-    }
-}
-
 /// A row without an instruction; where none is known, a number that no row has.
 pub(crate) fn idle_row(cells: &Cells) -> usize
     requires { IsBounded cells.now }
@@ -133,11 +98,10 @@ pub(crate) fn stand_after(place: usize, step: Transition) -> Stand
 
 /// Where the columns begin of the row of a place: where nothing was found, one more way begins there.
 #[inline(always)]
-fn start_of_row(hit: Option<Hit>, ahead: u32, opened: u32) -> u32
-    ensures { (cells : List Cell) (trail : Trail)
-        → result ≡ row_if (found_in_trail cells trail hit) ahead opened }
+fn start_of_row(found: Option<Span>, ahead: u32, opened: u32) -> u32
+    ensures { result ≡ row_if found ahead opened }
 {
-    match hit {
+    match found {
         None => opened,
         Some(_) => ahead,
     }
@@ -145,54 +109,45 @@ fn start_of_row(hit: Option<Hit>, ahead: u32, opened: u32) -> u32
 
 /// Whether the loop is left: no way waits, or the first match was found.
 #[inline(always)]
-fn leaves(at: Stand, idle: usize, hit: Option<Hit>, searches: bool) -> bool {
-    at.next == idle || hit.is_none() != searches
+fn leaves(at: Stand, idle: usize, found: Option<Span>, searches: bool) -> bool {
+    at.next == idle || found.is_none() != searches
 }
 
-/// Takes steps that the table tells, until the trail has no more room, or no match can begin nor
-/// go on: there it is for a scan to find the next place. Each place that it comes to is one where a match may begin and end.
+/// Takes steps that the table tells, wherever the ways began that wait: until none waits, or the first match is found. Each place that it
+/// comes to is one where a match may begin and end.
 #[inline(never)]
 pub(crate) fn run(
     attempt: &Attempt,
     cells: &Cells,
     from: Stand,
-    trail: &mut Trail,
-    hit: &mut Option<Hit>,
+    starts: &mut Starts,
+    found: &mut Option<Span>,
 ) -> Result<Stand, AllocError>
-    requires stands { Stands attempt.now cells.now (front_at from trail.old hit.old) from.place }
-    requires before { IsStart (context_in attempt.now) from.place cells.now.table.classes
-        from.begun from.opened }
-    ensures front { IfOk result (λ to. IsFront attempt.now cells.now
-        (front_at to trail.new hit.new) to.place to.place) }
+    requires waits { Waits attempt.now cells.now from starts.old.waiting.items found.old }
+    ensures waits { IfOk result (λ to.
+        Waits attempt.now cells.now to starts.new.waiting.items found.new) }
     ensures forth { IfOk result (λ to. from.place ≤ to.place) }
-    ensures ends { IfOk result (λ to. to.place ≤ attempt.now.last) }
-    ensures visits { length trail.old.visits.items ≤ most_visits
-        → length trail.new.visits.items ≤ most_visits }
 {
-    let room = VISITS.saturating_sub(trail.visits.len());
-    let end = attempt.last.min(from.place.saturating_add(room));
     let idle = idle_row(cells);
     let table = cells.table.view();
+    let searches = found.is_none();
     let mut at = from;
-    let mut row = start_of_row(*hit, ahead_of(attempt, cells, at), at.opened);
-    let searches = hit.is_none();
+    let mut row = start_of_row(*found, ahead_of(attempt, cells, at), at.opened);
     let mut ends = false;
-    'places: while at.place < end && !ends {
-        let start = start_at(*hit, at.place);
+    'places: while at.place < attempt.last && !ends {
         let Some(told) = told_at(attempt, table, row, at.place, true) else {
             return Ok(at);
         };
-        let visits = trail.visits.len();
-        let Some(step) = step_of(*told.step, cells, hit, visits, at.place) else {
+        let Some(step) = known_step(*told.step) else {
             return Ok(at);
         };
-        trail.visits.push(Visit {
-            cell: step.cell as usize,
-            start,
-        })?;
-        row = start_of_row(*hit, step.ahead, step.opened);
+        let Some(cell) = cells.cells.get(step.cell as usize) else {
+            return Ok(at);
+        };
+        starts.step(cell, at.place, found)?;
+        row = start_of_row(*found, step.ahead, step.opened);
         at = stand_after(told.past, step);
-        ends = leaves(at, idle, *hit, searches);
+        ends = leaves(at, idle, *found, searches);
     }
     Ok(at)
 }

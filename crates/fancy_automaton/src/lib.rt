@@ -10,8 +10,8 @@
 //! two ways: the one of `a`, at whose end the code matches, and the one of `ab`, which still reads a `b`. At 1 the first
 //! way ends with an outcome, which hides the second one: the match is `a`, and no way waits any more.
 //!
-//! Where the match began is told by the trail, the steps that were taken: each way has the number of the way that it comes
-//! from, so it is followed back to the step at which it began.
+//! Where a match began is told by where its way did: each way has the number of the way that it comes from. While all ways that wait began
+//! at one place, that place is kept alone.
 #![tactic(auto)]
 
 mod amid;

@@ -14,7 +14,7 @@ ghost use Rattle.fancy_states.specs.Cells.{IsFor, IsBounded, HoldsFor, row_if, w
 ghost use Rattle.fancy_states.specs.Futures.{ArePlain};
 ghost use Rattle.fancy_states.specs.Search.{BegunIn, IsFoundAs, KeepsPlaces, at_position, ends_in, leftmost_in, IsFollowed};
 ghost use Rattle.fancy_states.specs.Counts.{AddsSteps};
-ghost use Rattle.fancy_states.specs.Trail.{match_from};
+ghost use Rattle.fancy_states.specs.Starts.{match_from};
 ghost use Rattle.fancy_automaton.specs.Decided.{BeginsFrom, IsAnsweredFrom, IsGoal, attempt_goal, search_goal};
 ghost use Rattle.fancy_automaton.specs.Sole.{IsSole, Reaches};
 ghost use Rattle.fancy_automaton.specs.Places.{IsNextPlace};
@@ -22,10 +22,9 @@ ghost use Rattle.fancy_automaton.specs.Asked.{IsAsked, IsOpened, IsOpenedFor};
 
 use crate::anchored::{span_at, span_told};
 use crate::earliest::has_match;
-use crate::follow::{follow, follow_any, next_opened, next_start};
+use crate::follow::{next_opened, next_start, walk};
 use crate::front::Front;
-use crate::sole::Sole;
-use crate::told::is_wide_at;
+use crate::sole::{Sole, span_from};
 use fancy_code::attempt::Attempt;
 use fancy_code::code::Code;
 use fancy_code::found::Found;
@@ -36,10 +35,9 @@ use fancy_input::work::Work;
 use fancy_meaning::options::SearchOptions;
 use fancy_states::cells::{Cells, origin, remembered, seen_at};
 use fancy_states::origin::Origin;
-use fancy_states::trail::span_from;
 use std::alloc::AllocError;
 
-/// Goes on with a trail, from where a walk without one ended: where the leftmost match begins and ends that is preferred there, if
+/// Goes on from where a walk ended, wherever the ways began that wait: where the leftmost match begins and ends that is preferred there, if
 /// there is one.
 #[inline(never)]
 fn trace(
@@ -56,8 +54,8 @@ fn trace(
         (code_len attempt.now.code.now * (attempt.now.last + 1 - from.stand.place))
         work.old work.new }
 {
-    let mut place = from.stand.place;
     let mut front = Front::new(cells, from)?;
+    let mut place = front.run(attempt, cells, from.stand.place)?;
     'places: loop {
         if front.is_over(cells) {
             return Ok(front.end(cells, place));
@@ -93,7 +91,7 @@ fn last_begun(at: Sole) -> usize
     }
 }
 
-/// Where the leftmost match begins and ends, if there is one, where a walk without a trail ended at the last place and the step there is
+/// Where the leftmost match begins and ends, if there is one, where a walk ended at the last place and the step there is
 /// remembered. `None` where it is not.
 #[inline(always)]
 fn told_end(attempt: &Attempt, cells: &Cells, at: Sole) -> Option<Option<Span>>
@@ -125,22 +123,6 @@ pub struct Candidate {
     pub told: usize,
     /// How many bytes it is past the first place that a scan finds.
     pub passed: usize,
-}
-
-/// Takes steps that the table tells, from a place on at which a match may begin.
-#[inline(always)]
-fn walk(attempt: &Attempt, cells: &Cells, from: Sole) -> Sole
-    requires sole { IsSole attempt.now cells.now from }
-    ensures reaches { Reaches attempt.now cells.now from.stand.place result }
-{
-    let mut to = from;
-    if !is_wide_at(attempt, to.stand.place) {
-        to = follow(attempt, cells, to);
-    }
-    if is_wide_at(attempt, to.stand.place) && !to.is_over(cells) {
-        to = follow_any(attempt, cells, to);
-    }
-    to
 }
 
 /// A search at the next place at which a match may begin, from where no way waits and nothing was found. `None` where there is none.

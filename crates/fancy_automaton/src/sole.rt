@@ -4,12 +4,25 @@ ghost use Rattle.std.specs.Prelude.{◌≡◌, ◌<◌, ◌≤◌, [], None, is_
 ghost use Rattle.fancy_code.specs.Attempt.{may_end_in};
 ghost use Rattle.fancy_states.specs.Cells.{HasRows, HoldsFor, ways_at};
 ghost use Rattle.fancy_states.specs.Search.{Going, IsFollowed};
+ghost use Rattle.fancy_states.specs.Starts.{match_from};
 ghost use Rattle.fancy_automaton.specs.Sole.{IsSole};
 
 use crate::hop::{Stand, row_start};
 use fancy_code::attempt::Attempt;
+use fancy_input::span::Span;
 use fancy_states::cells::Cells;
 use fancy_states::rows::Target;
+
+/// A match that begins and ends there, if it ends.
+#[inline(always)]
+pub(crate) fn span_from(start: usize, end: Option<usize>) -> Option<Span>
+    ensures { result ≡ match_from start end }
+{
+    match end {
+        None => None,
+        Some(end) => Some(Span { start, end }),
+    }
+}
 
 /// A search whose ways that wait all began at one place, and so did the match that was found, if one was.
 #[derive(Clone, Copy)]

@@ -37,6 +37,19 @@ pub(crate) fn quiet_step(step: Transition) -> Option<Transition>
     }
 }
 
+/// A step, if it is remembered.
+#[inline(always)]
+pub(crate) fn known_step(step: Transition) -> Option<Transition>
+    ensures { (cells : Cells) (row : ℕ) (sight : Sight)
+        → IsEntry cells.table.classes cells.cells.items row sight step
+        → IfSome result (IsTransition cells.table.classes cells.cells.items row sight) }
+{
+    match step.kind {
+        Kind::Unknown => None,
+        Kind::Quiet | Kind::Mixed | Kind::Matching => Some(step),
+    }
+}
+
 /// Whether a byte stands at a place that is no ASCII character.
 #[inline(always)]
 pub(crate) fn is_wide_at(attempt: &Attempt, place: usize) -> bool

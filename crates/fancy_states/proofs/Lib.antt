@@ -9,7 +9,6 @@ pub mod JoinLemmas
 pub mod SearchLemmas
 pub mod UntouchedLemmas
 pub mod CellLemmas
-pub mod TrailLemmas
 pub mod TransitionLemmas
 pub mod RememberedLemmas
 pub mod SlotLemmas

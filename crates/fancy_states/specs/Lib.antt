@@ -2,6 +2,7 @@ pub mod Ways
 pub mod Marks
 pub mod Counts
 pub mod Futures
+pub mod Starts
 pub mod Steps
 pub mod Joins
 pub mod Search
@@ -9,5 +10,4 @@ pub mod Origins
 pub mod Slots
 pub mod Transitions
 pub mod Cells
-pub mod Trail
 pub mod Remembered

@@ -6,7 +6,7 @@ ghost use Rattle.fancy_input.specs.Work.{steps_of};
 ghost use Rattle.fancy_code.specs.declared.code.Code.{Code};
 ghost use Rattle.fancy_alphabet.specs.Alike.{IsSeenLike};
 ghost use Rattle.fancy_states.specs.Steps.{from_of, IsStepOn};
-ghost use Rattle.fancy_states.specs.Trail.{came_at};
+ghost use Rattle.fancy_states.specs.Starts.{came_at};
 ghost use Rattle.fancy_states.specs.Transitions.{AreTold, IsEntry};
 ghost use Rattle.fancy_states.specs.Cells.{KeepsRows, KeepsCells, HasRow, HasCell, HasPlace, IsFor, IsCell, IsBounded, ways_at, IsEmpty, StaysTrue, GrowsBy, HasRows, HoldsFor};
 ghost use Rattle.fancy_states.specs.Counts.{AddsSteps, PaysFor};
@@ -15,8 +15,8 @@ use crate::join::{Begun, joined};
 use crate::origin::{Origin, origin_of};
 use crate::rows::{Rows, Target, copied, intern, target_of};
 use crate::slots::{NOTHING, slot_at};
+use crate::starts::Starts;
 use crate::step::{Scratch, Step, step_from};
-use crate::trail::Trail;
 use crate::transitions::{Kind, Transition, Transitions};
 use crate::way::Way;
 use fancy_alphabet::alike::classes_of;
@@ -95,8 +95,8 @@ pub struct Cells {
     pub held: usize,
     /// Once rows and steps take about so many bytes, they are forgotten before the next step is computed.
     pub room: usize,
-    /// The trail of the search before, whose memory the next one takes over.
-    pub spare: Trail,
+    /// Where the ways of the search before began, whose memory the next one takes over.
+    pub spare: Starts,
     /// The place where the last search stopped reading, a byte offset.
     pub reached: usize,
     /// Whether searches walk on by the table where no way waits. Else a scan finds the next place there.
@@ -122,7 +122,7 @@ impl Cells {
             alone: 0,
             held: 0,
             room: ROOM,
-            spare: Trail::new(alloc),
+            spare: Starts::new(alloc),
             reached: 0,
             walks: false,
             scratch: Scratch::new(alloc),

@@ -5,8 +5,8 @@
 //! computed once for a row and what is seen, the item and both sides of the place. It is remembered in a cell, to which a table
 //! leads. Of the ASCII characters that no instruction tells apart one stands for all.
 //!
-//! Where a match began is told by the trail, the steps that were taken: each way has the number of the way that it comes
-//! from, so it is followed back to the step at which it began.
+//! Where a match began is told by where its way did: each way has the number of the way that it comes from, so a search goes on from where
+//! those began that wait to where those did after a step (`Starts`).
 #![tactic(auto)]
 
 pub mod cells;
@@ -18,7 +18,7 @@ pub mod origin;
 pub mod plain;
 pub mod rows;
 pub mod slots;
+pub mod starts;
 pub mod step;
-pub mod trail;
 pub mod transitions;
 pub mod way;

@@ -9,4 +9,4 @@ invariant-places l = record {
 }
 
 abbrev pub decreases-places : goal.decreases-places
-decreases-places l = l.limit - l.at.stand.place
+decreases-places l = l.attempt.last - l.at.stand.place

@@ -1,6 +1,6 @@
 use Rattle.std.proofs.Common.{◌<◌, ◌≤◌, [], ℕ, None, Option, arith, length, refl, replicate, subst, sym}
 use Rattle.fancy_code.specs.CodeLength.{code_len}
-use Rattle.fancy_states.specs.Trail.{match_from}
+use Rattle.fancy_states.specs.Starts.{match_from}
 use Rattle.fancy_states.proofs.CountLemmas.{counts_more, counts_none, counts_up}
 use Rattle.fancy_automaton.specs.Sole.{IsAmid, IsAt}
 use Rattle.fancy_automaton.proofs.GoingLemmas.{going_first, going_idle}

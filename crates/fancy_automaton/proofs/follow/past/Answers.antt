@@ -3,7 +3,7 @@ use Rattle.fancy_states.specs.Transitions.{IsOfKind}
 use Rattle.fancy_states.specs.declared.transitions.Kind.{Kind}
 use Rattle.fancy_automaton.specs.declared.hop.Stand.{Stand}
 use Rattle.fancy_automaton.specs.Sole.{IsAt, IsSole, stood}
-use Rattle.fancy_states.specs.Trail.{match_from}
+use Rattle.fancy_states.specs.Starts.{match_from}
 use Rattle.fancy_automaton.proofs.SoleLemmas.{found_earlier, found_last, idle_sole, quiet_amid}
 use Rattle.fancy_automaton.proofs.follow.past.Goals as goal
 use Rattle.fancy_automaton.proofs.follow.past.Goals.{in-Last, in-Earlier}

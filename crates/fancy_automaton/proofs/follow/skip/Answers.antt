@@ -1,6 +1,6 @@
 use Rattle.std.proofs.Common.{[], None, Option, ℕ, arith, length, refl, replicate, subst}
 use Rattle.fancy_automaton.specs.Sole.{IsAmid, IsAt}
-use Rattle.fancy_states.specs.Trail.{match_from}
+use Rattle.fancy_states.specs.Starts.{match_from}
 use Rattle.fancy_automaton.proofs.GoingLemmas.{going_idle}
 use Rattle.fancy_automaton.proofs.SoleLemmas.{idle_rows}
 use Rattle.fancy_automaton.proofs.follow.skip.Goals as goal

@@ -2,7 +2,7 @@ use Rattle.std.proofs.Common.{◌≡◌, ◌∙◌, [], None, Option, ℕ, arith
 use Rattle.fancy_code.specs.declared.attempt.Attempt.{Attempt}
 use Rattle.fancy_states.specs.Cells.{HasRows, ways_at}
 use Rattle.fancy_states.specs.Search.{Going}
-use Rattle.fancy_states.specs.Trail.{match_from}
+use Rattle.fancy_states.specs.Starts.{match_from}
 use Rattle.fancy_states.specs.declared.cells.Cells.{Cells}
 use Rattle.fancy_states.specs.declared.rows.Target.{Target}
 use Rattle.fancy_states.proofs.CellLemmas.{row_ways}

@@ -1,7 +1,7 @@
 use Rattle.std.proofs.Common.{◌≡◌, ◌+◌, ◌∙◌, [], ℕ, None, Option, Some, ap, arith, option_map, refl, sym, true}
 use Rattle.std.specs.Prelude.{is_some}
 use Rattle.fancy_states.specs.Search.{ends_in}
-use Rattle.fancy_states.specs.Trail.{match_from}
+use Rattle.fancy_states.specs.Starts.{match_from}
 use Rattle.fancy_code.specs.CodeLength.{code_len}
 use Rattle.fancy_states.proofs.CellLemmas.{row_ways, row_within}
 use Rattle.fancy_automaton.proofs.GoingLemmas.{going_first, going_idle, going_over}

@@ -1,5 +1,5 @@
 use Rattle.std.proofs.Common.{◌≡◌, ◌∙◌, List, [], None, ap, arith, length, refl, replicate, sym, ℕ}
-use Rattle.fancy_states.specs.Trail.{match_from}
+use Rattle.fancy_states.specs.Starts.{match_from}
 use Rattle.fancy_states.proofs.CellLemmas.{row_ways, row_within}
 use Rattle.fancy_automaton.proofs.BeginLemmas.{idle_begins, sole_begins}
 use Rattle.fancy_automaton.proofs.GoingLemmas.{going_idle, going_same}

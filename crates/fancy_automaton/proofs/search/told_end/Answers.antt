@@ -1,7 +1,7 @@
 use Rattle.std.proofs.Common.{◌∙◌, Option, Some, ap, length, option_map, replicate, subst, ℕ}
 use Rattle.fancy_states.specs.Origins.{ComeFrom}
 use Rattle.fancy_states.specs.Search.{begun_if, ends_in}
-use Rattle.fancy_states.specs.Trail.{match_from}
+use Rattle.fancy_states.specs.Starts.{match_from}
 use Rattle.fancy_states.specs.declared.origin.Origin.{Origin}
 use Rattle.fancy_states.specs.declared.origin.Origin.TheVariants.{Earlier, Last}
 use Rattle.fancy_automaton.proofs.EndLemmas.{began_earlier, began_last, comes_last, last_found, last_quiet}

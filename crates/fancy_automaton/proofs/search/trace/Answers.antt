@@ -3,7 +3,6 @@ use Rattle.fancy_states.specs.Search.{ends_in}
 use Rattle.fancy_code.specs.CodeLength.{code_len}
 use Rattle.fancy_states.proofs.CellLemmas.{row_within}
 use Rattle.fancy_automaton.proofs.GoingLemmas.{going_end, going_over}
-use Rattle.fancy_states.proofs.TrailLemmas.{some_found}
 use Rattle.fancy_states.proofs.CountLemmas.{counts_more, counts_none, counts_up}
 use Rattle.fancy_automaton.proofs.search.trace.Goals as goal
 
@@ -12,11 +11,14 @@ new-requires c = row_within c.args.cells.now.rows.lists.items c.args.from.stand.
 
 pub places-init : goal.places-init
 places-init c = record {
-  front = c.in_ok-front.ensures.front c.args.attempt.now c.requires.sole;
-  passed = omega arith;
-  within = omega (arith, c.requires.sole.1.within);
+  front = c.in_ok-place.ensures.front;
+  passed = c.in_ok-place.ensures.forth;
+  within = omega (arith, c.in_ok-place.ensures.ends);
   counts = counts_none _;
 }
+
+pub run-requires : goal.run-requires
+run-requires c = record { front = c.in_ok-front.ensures.front c.args.attempt.now c.requires.sole; within = c.requires.sole.1.within }
 
 pub is_over-requires : goal.is_over-requires
 is_over-requires c = record { row = row_within c.places.cells.rows.lists.items c.places.front.next _ c.places.invariant.front.waits }
@@ -25,8 +27,7 @@ pub returns-then-is_over-clause-answer : goal.returns-then-is_over-clause-answer
 returns-then-is_over-clause-answer c deep begun =
     ap (option_map ends_in) c.end.ensures.found
     ∙ going_over c.args.attempt.now _ _ _ c.places.place c.places.place deep (c.is_over.ensures.over c.if-is_over.true)
-    (some_found c.places.cells.cells.items c.places.front.trail.base.items c.places.front.trail.visits.items c.places.front.hit (c.is_over.ensures.found c.if-is_over.true))
-    begun c.places.invariant.front.going
+    (c.is_over.ensures.found c.if-is_over.true) begun c.places.invariant.front.going
 
 pub returns-then-is_over-clause-kept : goal.returns-then-is_over-clause-kept
 returns-then-is_over-clause-kept c = record {
@@ -64,15 +65,15 @@ pass-requires c = record {
 
 pub places-preserved : goal.places-preserved
 places-preserved c = record {
-  front = c.in_ok-place.ensures.front;
-  passed = omega (arith, c.places.invariant.passed, c.seek-place.ensures.forth, c.in_ok-place.ensures.forth);
-  within = c.in_ok-place.ensures.ends;
-  counts = counts_more (code_len c.args.attempt.now.code.now) c.args.from.stand.place c.seek-place.result c.in_ok-place.place (omega (arith, c.places.invariant.passed, c.seek-place.ensures.forth)) c.in_ok-place.ensures.forth
+  front = c.in_ok-place-2.ensures.front;
+  passed = omega (arith, c.places.invariant.passed, c.seek-place.ensures.forth, c.in_ok-place-2.ensures.forth);
+  within = c.in_ok-place-2.ensures.ends;
+  counts = counts_more (code_len c.args.attempt.now.code.now) c.args.from.stand.place c.seek-place.result c.in_ok-place-2.place (omega (arith, c.places.invariant.passed, c.seek-place.ensures.forth)) c.in_ok-place-2.ensures.forth
       (counts_up (code_len c.args.attempt.now.code.now) c.args.from.stand.place c.places.place c.seek-place.result c.seek-place.ensures.forth c.places.invariant.counts) c.pass.ensures.counts;
 }
 
-pub returns-in_err-place-clause-counts : goal.returns-in_err-place-clause-counts
-returns-in_err-place-clause-counts c =
+pub returns-in_err-place-2-clause-counts : goal.returns-in_err-place-2-clause-counts
+returns-in_err-place-2-clause-counts c =
     counts_more (code_len c.args.attempt.now.code.now) c.args.from.stand.place c.seek-place.result (c.args.attempt.now.last + 1) (omega (arith, c.places.invariant.passed, c.seek-place.ensures.forth)) (omega (arith, c.if-place-attempt.false))
     (counts_up (code_len c.args.attempt.now.code.now) c.args.from.stand.place c.places.place c.seek-place.result c.seek-place.ensures.forth c.places.invariant.counts) c.pass.ensures.counts
 

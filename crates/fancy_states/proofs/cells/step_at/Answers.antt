@@ -1,7 +1,7 @@
 use Rattle.std.proofs.Common.{◌≡◌, ◌∙◌, List, Option, Some, sym, ap, arith, length, subst, All, rules}
 use Rattle.std.specs.Prelude.{slice_get}
 use Rattle.fancy_states.specs.declared.cells.Cell.{Cell}
-use Rattle.fancy_states.specs.Trail.{came_of}
+use Rattle.fancy_states.specs.Starts.{came_of}
 use Rattle.fancy_states.proofs.CellLemmas.{cell_last, cell_pushed, grown, keeps_cells}
 use Rattle.fancy_states.specs.Cells.{IsCellOf}
 use Rattle.fancy_states.proofs.TransitionLemmas.{holds_more}

@@ -7,12 +7,11 @@ use Rattle.fancy_automaton.proofs.front.Front.make_place.Goals as goal
 
 pub returns-clause-front : goal.returns-clause-front
 returns-clause-front c a place resume same is =
-    let f = c.settle.new.self in
-    let settled = c.in_ok-settle.ensures.front a place resume is in
-    front_restarted a c.args.cells.now c.restart.new.cells f _ place resume c.in_ok-settle.ensures.visits
-    (record { bounded = c.restart.ensures.within; all = c.restart.ensures.stays a.code.now settled.all })
+    let f = c.args.self.now in
+    front_restarted a c.args.cells.now c.restart.new.cells f _ place resume
+    (record { bounded = c.restart.ensures.within; all = c.restart.ensures.stays a.code.now is.all })
     (subst (λ (code : Code). HasRows c.restart.new.cells.rows.lists.items c.in_ok-target.target.next c.in_ok-target.target.begun (ways_of c.args.cells.now f) code.start) (sym same) c.in_ok-target.ensures.rows)
-    refl refl settled
+    refl refl is
 
 pub returns-in_err-target-clause-kept : goal.returns-in_err-target-clause-kept
 returns-in_err-target-clause-kept c = record { bounded = c.restart.ensures.within; all = c.restart.ensures.stays c.args.code.now c.requires.kept.all }

@@ -1,19 +1,31 @@
-use Rattle.std.proofs.Common.{arith}
-use Rattle.fancy_states.proofs.CellLemmas.{row_within}
-use Rattle.fancy_automaton.proofs.SoleLemmas.{front_stands}
+use Rattle.std.proofs.Common.{arith, refl}
+use Rattle.fancy_automaton.specs.Front.{ways_of}
+use Rattle.fancy_automaton.proofs.FrontLemmas.{front_waits}
+use Rattle.fancy_automaton.proofs.SoleLemmas.{front_waits_at, waits_front}
 use Rattle.fancy_automaton.proofs.front.Front.run.Goals as goal
 
-pub run-requires-clause-stands : goal.run-requires-clause-stands
-run-requires-clause-stands c =
-    front_stands c.args.attempt.now c.args.cells.now c.args.self.now c.stand-from.result c.args.place c.stand-from.ensures.place c.stand-from.ensures.next c.stand-from.ensures.begun c.requires.stands
+pub is_told-requires : goal.is_told-requires
+is_told-requires c =
+    let here = front_waits c.args.attempt.now c.args.cells.now c.args.self.now c.args.place c.requires.front (c.has_waiting.ensures.some c.if-not-has_waiting.false) in
+    record { front = c.requires.front; good = here.0; within = here.1 }
 
-pub forget_idle-requires : goal.forget_idle-requires
-forget_idle-requires c = record { row = row_within c.args.cells.now.rows.lists.items c.in_ok-to.to.next _ c.in_ok-to.ensures.front.waits }
+pub run-requires : goal.run-requires
+run-requires c =
+    let a = c.args.attempt.now in
+    let cells = c.args.cells.now in
+    let f = c.args.self.now in
+    let here = front_waits a cells f c.args.place c.requires.front (c.has_waiting.ensures.some c.if-not-has_waiting.false) in
+    record {
+      waits = (
+        ways_of cells f,
+        front_waits_at a cells f c.stand-from.result c.args.place (record { front = c.requires.front; good = here.0; within = here.1 })
+            c.stand-from.ensures.place c.stand-from.ensures.next c.stand-from.ensures.begun c.stand-from.ensures.opened,
+      );
+    }
 
 pub returns : goal.returns
 returns c = record {
-  front = c.forget_idle.ensures.front c.args.attempt.now c.in_ok-to.to.place c.in_ok-to.to.place c.in_ok-to.ensures.front;
+  front = waits_front c.args.attempt.now c.args.cells.now _ c.in_ok-to.to refl refl c.in_ok-to.ensures.waits;
   forth = omega (arith, c.in_ok-to.ensures.forth, c.stand-from.ensures.place);
-  ends = c.in_ok-to.ensures.ends;
-  visits = λ few. omega (arith, c.run.ensures.visits few, c.forget_idle.ensures.visits);
+  ends = c.in_ok-to.ensures.waits.1.within;
 }

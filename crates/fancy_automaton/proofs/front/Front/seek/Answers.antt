@@ -1,5 +1,4 @@
 use Rattle.std.proofs.Common.{◌∙◌, ap, length}
-use Rattle.fancy_automaton.specs.Front.{starts_of}
 use Rattle.fancy_states.proofs.CellLemmas.{row_within}
 use Rattle.fancy_automaton.proofs.FrontLemmas.{front_waits}
 use Rattle.fancy_automaton.proofs.GoingLemmas.{going_idle}
@@ -25,7 +24,5 @@ returns-clause-front c =
       waits = is.waits;
       opens = is.opens;
       going = going_idle c.args.attempt.now _ _ _ c.args.place c.next_start.result next.forth next.ends
-          (no_items (starts_of c.args.cells.now f) (is.going.even ∙ ap length (c.has_waiting.ensures.none c.if-has_waiting.false))) next.passed is.going;
-      visits = is.visits;
-      hits = is.hits;
+          (no_items f.starts.waiting.items (is.going.even ∙ ap length (c.has_waiting.ensures.none c.if-has_waiting.false))) next.passed is.going;
     }

@@ -1,7 +1,7 @@
 use Rattle.std.proofs.Common.{arith, subst, sym}
 use Rattle.fancy_automaton.specs.Sole.{Reaches}
-use Rattle.fancy_automaton.proofs.search.walk.Goals as goal
-use Rattle.fancy_automaton.proofs.search.walk.Goals.{then-not-is_wide_at, else-not-is_wide_at}
+use Rattle.fancy_automaton.proofs.follow.walk.Goals as goal
+use Rattle.fancy_automaton.proofs.follow.walk.Goals.{then-not-is_wide_at, else-not-is_wide_at}
 
 pub returns-else-is_wide_at : goal.returns-else-is_wide_at
 returns-else-is_wide_at c =
